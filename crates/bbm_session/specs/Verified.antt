@@ -11,10 +11,12 @@ use Rattle.bbm_report.specs.ReportLines.{verified_text}
 use Rattle.bbm_session.specs.Certificates.{read_status, read_text}
 use Rattle.bbm_texts.specs.CertTexts.{certificate_text}
 use Rattle.bbm_texts.specs.declared.status.Status.TheVariants.{Accepted}
+use Rattle.bbm_tlb_machine.specs.Isolated.{IsolatedBySay}
 use Rattle.bbm_tlb_machine.specs.Safe.{IsLog, OneRootATag, Safe}
 
 -- The bytes are a log of this header, newest first, and these claims, and nothing else. The log keeps the rules by the
--- claims alone, it is safe on the machine of TLBs, and at every moment of each run over it there is one root a tag.
+-- claims alone, it is safe on the machine of TLBs, at every moment of each run over it there is one root a tag, and it
+-- is isolated where the header has that word.
 pub record IsVerified (bytes : List ℕ) : Type 0 where
   pub heading : Heading
   pub log : List Event
@@ -24,6 +26,7 @@ pub record IsVerified (bytes : List ℕ) : Type 0 where
   pub kept : keeps heading (Listed claims) log ≡ true
   pub safe : Safe heading log
   pub one_root : OneRootATag heading log
+  pub isolated : IsolatedBySay (Listed claims) heading log
 
 -- The text is that of the certificate of a log with so many events, and the bytes of the log with the text behind them
 -- are read whole, as the log and these claims: at most 128 for each event, and fewer than the limit of claims. What is

@@ -32,7 +32,7 @@ use bbm_events::{
     law_written_is_a_line, law_written_is_read,
 };
 use bbm_gen::law_gen;
-use bbm_tlb_machine::{law_one_root_a_tag, law_safe};
+use bbm_tlb_machine::{law_isolated, law_one_root_a_tag, law_safe};
 
 /// What `check` says of the text that `gen` writes for the number n and `count` events, at most 4,294,967,293: it is
 /// accepted, and read whole, and its events are those of the generated log. So what `selftest` writes is the line of
@@ -60,9 +60,9 @@ pub fn law_cert()
     law_safe();
 }
 
-/// Where bytes are a log and its certificate, and the claims say yes of the log, it keeps the rules by them alone, it is
-/// safe, and at every moment of each run over it there is one root a tag. The call does nothing; the law is its
-/// contract.
+/// Where bytes are a log and its certificate, and the claims say yes of the log, it keeps the rules by them alone, it
+/// is safe, at every moment of each run over it there is one root a tag, and where its header has `isolated` it is
+/// isolated. The call does nothing; the law is its contract.
 pub fn law_verified_is_safe()
     ensures { (bytes : List ℕ) (heading : Heading) (claims : List Claim) (log : List Event) →
         (read_of bytes).says ≡ Whole heading log claims → judged heading claims log ≡ Yes → IsVerified bytes }
@@ -70,6 +70,7 @@ pub fn law_verified_is_safe()
     law_read_whole();
     law_judged();
     law_cert();
+    law_isolated();
     law_one_root_a_tag();
 }
 

@@ -8,6 +8,7 @@ ghost use Rattle.bbm_io.specs.Flow.{preceded, extended};
 ghost use Rattle.bbm_rules.specs.Claims.{Patterns};
 ghost use Rattle.bbm_session.specs.Verified.{IsVerified};
 ghost use Rattle.bbm_tlb_machine.specs.Accepted.{HoldsOfLog};
+ghost use Rattle.bbm_tlb_machine.specs.Isolated.{IsolatedBySay};
 ghost use Rattle.bbm_tlb_machine.specs.Safe.{OneRootATag, Safe};
 ghost use Rattle.bbm_texts.specs.declared.commands.Command.{Command as CommandOf};
 ghost use Rattle.bbm_session.specs.declared.command.Request.{Request as RequestOf};
@@ -32,7 +33,7 @@ use bbm_io::{Sink, Source};
 use bbm_oracle::Oracle;
 use bbm_replay::Replay;
 use bbm_texts::{Command, Status, generate, say_usage, selftest};
-use bbm_tlb_machine::law_accepted_is_safe;
+use bbm_tlb_machine::{law_accepted_is_isolated, law_accepted_is_safe};
 use std::alloc::Global;
 
 /// Judges a log: for `slow` by the oracle, which searches the whole history, and else by the checker that keeps none,
@@ -137,9 +138,14 @@ pub fn run<S: Source, K: Sink>(
     ensures one_root_a_tag { (command : CommandOf) (bytes : List ℕ)
         → Asked (map string_bytes words.now.items) (S.left log.old) (Judge command) bytes
         → result ≡ Status.Accepted → HoldsOfLog OneRootATag Patterns (limits_of command) bytes }
-    // Where a log is judged by its certificate and accepted, it keeps the rules by the claims of that alone. No TLB keeps
-    // what a write, an init or a register write needs gone, in any run of the machine over it, and at every moment of
-    // such a run there is one root a tag.
+    // Where an accepted log's header has `isolated`, no TLB lets a guest reach a page of a tree, at any moment of such
+    // a run; nor did one since the last init of the page.
+    ensures isolated { (command : CommandOf) (bytes : List ℕ)
+        → Asked (map string_bytes words.now.items) (S.left log.old) (Judge command) bytes
+        → result ≡ Status.Accepted → HoldsOfLog (IsolatedBySay Patterns) Patterns (limits_of command) bytes }
+    // Where a log is judged by its certificate and accepted, it keeps the rules by the claims of that alone. No TLB
+    // keeps what a write, an init or a register write needs gone, in any run of the machine over it, and at every
+    // moment of such a run there is one root a tag. Where its header has `isolated`, the log is isolated.
     ensures verified_is_safe { (bytes : List ℕ)
         → Asked (map string_bytes words.now.items) (S.left log.old) Verify bytes
         → result ≡ Status.Accepted → IsVerified bytes }
@@ -185,6 +191,7 @@ pub fn run<S: Source, K: Sink>(
 {
     match said(words) {
         Some(request) => {
+            law_accepted_is_isolated();
             law_accepted_is_safe();
             law_verified_is_safe();
             serve(alloc, &request, log, out)

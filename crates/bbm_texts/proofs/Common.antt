@@ -12,7 +12,8 @@ pub use Rattle.bbm_rules.specs.declared.rule.Rule.{Rule}
 pub use Rattle.bbm_rules.specs.declared.rule.Rule.TheVariants.{BadKind, BadOperand, BreakBeforeMake, GlobalUser}
 pub use Rattle.bbm_rules.specs.declared.rule.Rule.TheVariants.{LimboMake, LockBusy, LockNotMine, NoLock, NoRoot}
 pub use Rattle.bbm_rules.specs.declared.rule.Rule.TheVariants.{NotFresh, NullWritten, PageInUse, RewrittenFresh}
-pub use Rattle.bbm_rules.specs.declared.rule.Rule.TheVariants.{RootInUse, TagConflict, UnsyncedVmid, WrongWorld}
+pub use Rattle.bbm_rules.specs.declared.rule.Rule.TheVariants.{RootInUse, TableMapped, TagConflict, UnsyncedVmid}
+pub use Rattle.bbm_rules.specs.declared.rule.Rule.TheVariants.{WrongWorld}
 pub use Rattle.bbm_rules.specs.declared.verdict.Verdict.{Verdict}
 pub use Rattle.bbm_rules.specs.declared.verdict.Verdict.TheVariants.{Accepted, Limit, Malformed, Refused}
 pub use Rattle.bbm_texts.specs.CertTexts.{claim_lines}

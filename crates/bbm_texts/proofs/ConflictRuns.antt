@@ -3,7 +3,8 @@ use Rattle.bbm_texts.proofs.Common.{Heading, Event, Init, Null, Root, Unroot, Wr
 use Rattle.bbm_texts.proofs.Common.{Unlock, Failed, Patterns, Status, Decision, Rule, WrongWorld, NoLock, NullWritten}
 use Rattle.bbm_texts.proofs.Common.{BreakBeforeMake, LimboMake, NotFresh, RewrittenFresh, BadKind, GlobalUser}
 use Rattle.bbm_texts.proofs.Common.{PageInUse, NoRoot, TagConflict, RootInUse, UnsyncedVmid, BadOperand, LockBusy}
-use Rattle.bbm_texts.proofs.Common.{LockNotMine, Verdict, Accepted, Refused, Malformed, Limit, refused_write, step_line}
+use Rattle.bbm_texts.proofs.Common.{LockNotMine, TableMapped, Verdict, Accepted, Refused, Malformed, Limit}
+use Rattle.bbm_texts.proofs.Common.{refused_write, step_line}
 use Rattle.bbm_texts.proofs.Common.{step_lines, Show, Counterrun, ended, MayShowEvidence, status_of, Keeps, KnowsThat}
 use Rattle.bbm_texts.proofs.Common.{TellsEvent, Pours, Puts, ReportsDecided, ReportsText, Wrote, Step}
 use Rattle.bbm_rules.proofs.Common.{◌≡◌, ℕ, zero, suc, ◌+◌, ◌<◌, true, Bool, List, [], ◌∷◌, ◌++◌, length, map, take}
@@ -175,6 +176,7 @@ by-rule stands heading h e line UnsyncedVmid at label refused is keeps tells = c
 by-rule stands heading h e line BadOperand at label refused is keeps tells = cc
 by-rule stands heading h e line LockBusy at label refused is keeps tells = cc
 by-rule stands heading h e line LockNotMine at label refused is keeps tells = cc
+by-rule stands heading h e line TableMapped at label refused is keeps tells = cc
 
 pub knows-refused : (stands : Heading → List Event → Type 0) (heading : Heading) (h : List Event) (e : Event) (v : Verdict) (refused : Option Event)
     → refused_write refused v ≡ Some e → KnowsThat (Keeps stands heading h) v → TellsEvent heading h v refused → KnowsRefused stands heading h e
@@ -202,6 +204,7 @@ shows-by line UnsyncedVmid at label e refused is = cc
 shows-by line BadOperand at label e refused is = cc
 shows-by line LockBusy at label e refused is = cc
 shows-by line LockNotMine at label e refused is = cc
+shows-by line TableMapped at label e refused is = cc
 
 -- a run may be shown then
 pub shows-run : (v : Verdict) (e : Event) (refused : Option Event) → refused_write refused v ≡ Some e → MayShowEvidence (Show Counterrun) v

@@ -1,7 +1,8 @@
 -- Texts that are written one behind the other.
 use Rattle.bbm_texts.proofs.Common.{Failed, Heading, Rule, WrongWorld, NoLock, NullWritten, BreakBeforeMake, LimboMake}
 use Rattle.bbm_texts.proofs.Common.{NotFresh, RewrittenFresh, BadKind, GlobalUser, PageInUse, NoRoot, TagConflict}
-use Rattle.bbm_texts.proofs.Common.{RootInUse, UnsyncedVmid, BadOperand, LockBusy, LockNotMine, Verdict, Accepted}
+use Rattle.bbm_texts.proofs.Common.{RootInUse, UnsyncedVmid, BadOperand, LockBusy, LockNotMine, TableMapped, Verdict}
+use Rattle.bbm_texts.proofs.Common.{Accepted}
 use Rattle.bbm_texts.proofs.Common.{Refused, Malformed, Limit, Patterns, explained, Command, Show, Counterrun, Cert}
 use Rattle.bbm_texts.proofs.Common.{IsOutput, IsOutputUnder, Keeps, Knows, place_named, Part, Puts}
 use Rattle.bbm_rules.proofs.Common.{◌≡◌, Bool, true, false, if◌then◌else◌, ℕ, zero, suc, ◌+◌, ◌-◌, ◌<◌, List, [], ◌++◌}
@@ -108,6 +109,7 @@ named-rule heading h UnsyncedVmid at place is = cc
 named-rule heading h BadOperand at place is = cc
 named-rule heading h LockBusy at place is = cc
 named-rule heading h LockNotMine at place is = cc
+named-rule heading h TableMapped at place is = cc
 
 -- what is explained where a place is named
 pub explained-at : (heading : Heading) (h : List EventOf) (v : Verdict) (place : ℕ) → place_named v ≡ Some place

@@ -3,7 +3,7 @@ use Rattle.bbm_texts.proofs.Common.{Init, Null, Root, Unroot, Write, Dsb, Dmb, I
 use Rattle.bbm_texts.proofs.Common.{Rule, Verdict, Accepted, Refused, Malformed, Limit, WrongWorld, NoLock, NullWritten}
 use Rattle.bbm_texts.proofs.Common.{BreakBeforeMake, LimboMake, NotFresh, RewrittenFresh, BadKind, GlobalUser}
 use Rattle.bbm_texts.proofs.Common.{PageInUse, NoRoot, TagConflict, RootInUse, UnsyncedVmid, BadOperand, LockBusy}
-use Rattle.bbm_texts.proofs.Common.{LockNotMine, Patterns, Keeps, Knows, KnowsThat, TellsEvent}
+use Rattle.bbm_texts.proofs.Common.{LockNotMine, TableMapped, Patterns, Keeps, Knows, KnowsThat, TellsEvent}
 use Rattle.bbm_rules.proofs.Common.{option_map_or, ◌≡◌, ◌⊎◌, ℕ, Bool, true, ◌&&◌, List, [], ◌∷◌, Option, Some, None}
 use Rattle.bbm_rules.proofs.Common.{refl, ap, ◌∙◌, subst, inl, inr, proved, If, Is, fits_heading, is_pe, is_place}
 use Rattle.bbm_rules.proofs.Common.{is_value, Breach, breaks, first_broken, noted, ◌>>=◌, Noted, page_of}
@@ -81,6 +81,7 @@ of-rule heading h e UnsyncedVmid at fits is = tt
 of-rule heading h e BadOperand at fits is = tt
 of-rule heading h e LockBusy at fits is = tt
 of-rule heading h e LockNotMine at fits is = tt
+of-rule heading h e TableMapped at fits is = tt
 
 -- a breach of break-before-make by an event that fits names a place
 pub names-place : (heading : Heading) (h : List EventOf) (e : EventOf) (breach : Breach) → fits_heading heading e ≡ true

@@ -16,4 +16,5 @@ returns c bytes heading claims log is says =
       kept = kept;
       safe = c.law_cert.ensures heading claims log is_log kept;
       one_root = c.law_one_root_a_tag.ensures heading (Listed claims) log is_log kept;
+      isolated = c.law_isolated.ensures heading (Listed claims) log is_log kept;
     }

@@ -74,6 +74,13 @@ returns-in-Some-clause-one_root_a_tag g c = λ command bytes asked accepted.
     let accepts = served-accepts _ _ bytes asked.has command serves accepted in
     c.law_accepted_is_safe.ensures.one_root Patterns _ bytes accepts.0 accepts.1
 
+pub returns-in-Some-clause-isolated : goal.returns-in-Some-clause-isolated
+returns-in-Some-clause-isolated g c = λ command bytes asked accepted.
+    let same : c.in-Some.request ≡ Judge command = cc in
+    let serves = served-as _ _ _ _ same c.serve.ensures.serves in
+    let accepts = served-accepts _ _ bytes asked.has command serves accepted in
+    c.law_accepted_is_isolated.ensures.isolated Patterns _ bytes accepts.0 accepts.1
+
 pub returns-in-Some-clause-verified_is_safe : goal.returns-in-Some-clause-verified_is_safe
 returns-in-Some-clause-verified_is_safe g c = λ bytes asked accepted.
     let same : c.in-Some.request ≡ Verify = cc in
