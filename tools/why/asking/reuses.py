@@ -6,6 +6,9 @@ maps; of the same page and leaf the first. Each is asked of the program by a mad
 one that break-before-make refuses says that the leaf is still valid or may still be held. The made writes of one run stand at their
 reuses in one log, which ends before any of their places is written again; one that isn't the first there is asked anew before it
 counts. A leaf that is still valid at a reuse was so at the reuses before it, so of these the last is asked first.
+
+A log that says `isolated` is refused by rule 18 where a page becomes a table so. What is found in an accepted one are pages that are
+made zero while a leaf maps them, and become no table before a further `init`.
 """
 from __future__ import annotations
 
@@ -161,7 +164,7 @@ class Asker:
         """The log up to the last of these reuses, with the made writes of each before it."""
         at = count = 0
         for reuse in reuses:
-            yield from self.front.source.again(reuse.offset, at)
+            yield from self.front.asked(reuse.offset, at)
             yield b"".join(line + b"\n" for line in reuse.made)
             at, count = reuse.offset, count + len(reuse.made)
         yield b"end %d\n" % (reuses[-1].line - 2 + count)

@@ -21,7 +21,9 @@ TAGS_TRIED = 8
 NOT_FRESH = 6
 LOADED = 200
 # How many lines of each kind are near a line, and how many of the last ones count.
-BEFORE, BEHIND, FLUSHES, FOCUSED, LOADS, TRIED_LOCKS, WAY = 6, 6, 3, 4, 2, 8, 24
+BEFORE, BEHIND, FLUSHES, FOCUSED, LOADS, TRIED_LOCKS, WAY, LEAVES = 6, 6, 3, 4, 2, 8, 24, 8
+# The bits of a page's number inside a block of each level.
+OF_BLOCKS = (9, 18)
 
 
 class Write(NamedTuple):
@@ -109,8 +111,19 @@ class Index:
         to which a written value leads matters where the rules before that of pages don't refuse the line."""
         line, at = self.refused, self.refusal.at
         linked = line.next_page if self.refusal.rule >= NOT_FRESH else None
-        named = [line.page, linked, line.base, at if at >> PAGE else None]
+        named = [line.page, linked, line.base, at if at >> PAGE else None, *(write.place for write in self.mapping)]
         return [page >> PAGE for page in named if page is not None and page >> PAGE < 1 << 36]
+
+    @cached_property
+    def mapping(self) -> list[Write]:
+        """Of a page that is reported as mapped, the last writes of values that may be leaves which map it."""
+        if self.refusal.name != "table-mapped":
+            return []
+        page = self.refusal.at >> PAGE
+        has = lambda value: (value & ADDRESS_BITS) >> PAGE == page if value & 2 else \
+            any((value & ADDRESS_BITS) >> PAGE + bits == page >> bits for bits in OF_BLOCKS)
+        return sorted(write for of in self.pages.values() for write in of.writes
+                      if write.value & 1 and write.at < self.last and has(write.value))[-LEAVES:]
 
     # ---- ways
 
@@ -160,12 +173,17 @@ class Index:
         return made[-1] if made else None
 
     def of_refused(self, last_alone: bool) -> list[int]:
-        """The writes of the refused line's place: those from the last valid one before it on, or all since its page's `init`."""
+        """The writes of the refused line's place: those from the last valid one before it on, or all since its page's `init`; and
+        those of the leaves that map the page which is reported."""
         place = self.refused.place
-        return [] if place is None else self.written_at(place, last_alone and self.made_before(place, self.last) or 0)
+        of_leaves = [at for write in self.mapping for at in self.written_at(write.place, write.at)]
+        return of_leaves if place is None else [*of_leaves, *self.written_at(place, last_alone and self.made_before(place, self.last) or 0)]
 
     def window_of(self, way: Way) -> int:
-        """The line from which on barriers and TLBIs can matter: the last valid write of the refused place, or of the way to it."""
+        """The line from which on barriers and TLBIs can matter: the last valid write of the refused place, or of the way to it; the
+        first of the leaves that map the page which is reported."""
+        if self.mapping:
+            return self.mapping[0].at
         if self.refused.place is not None:
             return self.made_before(self.refused.place, self.last) or self.last
         return min((at for at in way.lines if at < self.last), default=2)

@@ -95,13 +95,14 @@ def padded(word: str, rest: list[str]) -> list[str]:
 
 
 # The words of a header in their order, each with the first version that has it; before `WITH_WORDS` the first is a field.
-WORDS, WITH_WORDS = {"cnp": 2, "unflushed": 5, "inorder": 5}, 5
-OF_KERNELS = ("inorder",)
+WORDS, WITH_WORDS = {"cnp": 2, "unflushed": 5, "inorder": 5, "isolated": 5}, 5
+# The words of one world alone.
+OF_WORLD = {"inorder": "kernel", "isolated": "hyp"}
 
 
 def words_of(world: str) -> tuple[str, ...]:
     """The words that a header of the world may say, in their order."""
-    return tuple(word for word in WORDS if world == "kernel" or word not in OF_KERNELS)
+    return tuple(word for word in WORDS if OF_WORLD.get(word, world) == world)
 
 
 @dataclass(frozen=True)
@@ -155,6 +156,14 @@ class Header:
     def pages_at(self, kind: str, page: int) -> range:
         """The pages of a root, by its first."""
         return range(page, page + self.pages_of(kind) * PAGE_BYTES, PAGE_BYTES)
+
+
+def for_questions(line: str) -> str:
+    """The header line of a log with made writes behind it: without `isolated`, by which rule 18 alone is judged. So nothing is said of
+    what a made value maps, and all else is as it was."""
+    header = header_of(line)
+    words = tuple(word for word in header.words if word != "isolated")
+    return line if words == header.words else str(replace(header, words=words))
 
 
 def header_of(line: str) -> Header:
@@ -262,4 +271,4 @@ class Before:
         return enumerate(self.log.parts[1:self.last], 2)
 
     def with_tail(self, tail: list[bytes]) -> list[bytes]:
-        return [joined([*self.log.parts[:self.last], *tail])]
+        return [joined([for_questions(self.header).encode("latin-1"), *self.log.parts[1:self.last], *tail])]

@@ -12,6 +12,7 @@ from collections.abc import Iterator
 from itertools import islice
 
 from why.asking.program import Answer, Program, Status, Unable
+from why.log.lines import for_questions
 
 PART = 1 << 20
 # So many bytes of a line are read where it has more: the program takes no line of more than 200.
@@ -119,9 +120,16 @@ class Front:
         """The event lines with their numbers, from 2 on."""
         return islice(enumerate(self.source.lines(self.size), 1), 1, self.events + 1)
 
+    def asked(self, size: int, since: int = 0) -> Iterator[bytes]:
+        """The first bytes, so many and from one on, under the header for questions."""
+        header = self.header
+        if since == 0:
+            yield for_questions(header).encode("latin-1")
+        yield from self.source.again(size, since or len(header))
+
     def with_tail(self, tail: list[bytes]) -> Iterator[bytes]:
         """The log of these events and of the lines behind them."""
-        yield from self.source.again(self.size)
+        yield from self.asked(self.size)
         yield b"".join(line + b"\n" for line in [*tail, b"end %d" % (self.events + len(tail))])
 
 

@@ -281,13 +281,24 @@ def whole_sequences(scene: Scene) -> Iterator[Family]:
         pes = loading(scene)
         heads = [away(pes, register, value) for register, value in elsewhere(scene)]
     else:
-        heads = [[barrier]] if is_limbo else [[f"w {event.pe} {hex(place)} 0x0", barrier] for place in scene.places]
-    tail = [f"init {event.pe} {hex(event.page)}"] if is_limbo else []
+        cleared = [[f"w {event.pe} {hex(place)} 0x0", barrier] for place in scene.places]
+        heads = [[barrier]] if is_limbo else [[barrier], *cleared] if scene.is_about_leaves else cleared
     for kind in scene.kinds:
         for head in heads:
             for text in tlbis_for(scene, kind):
                 flush = [f"tlbi {pes[-1]} {text}", f"dsb {pes[-1]} {words.COMPLETING}"]
-                yield Family((puts(scene.refused.at - 1, *scene.under_locks(*head, *flush, *tail)),))
+                yield Family(tuple(puts(scene.refused.at - 1, *scene.under_locks(*head, *flush, *tail)) for tail in tails(scene)))
+
+
+def tails(scene: Scene) -> list[list[str]]:
+    """What stands behind a whole sequence: where a page has to be made zero then, that which is reported, or all those of a root."""
+    event, of_pages = scene.event, lambda pages: [f"init {scene.event.pe} {hex(page)}" for page in pages]
+    if scene.refusal.name == "limbo-make":
+        return [of_pages([event.page])]
+    if not scene.is_about_leaves:
+        return [[]]
+    every = scene.header.pages_at(event.rest[0], event.page) if event.word == "root" else range(0)
+    return [of_pages([scene.reported])] + ([of_pages(every)] if len(every) > 1 else [])
 
 
 def loading(scene: Scene) -> list[int]:

@@ -131,9 +131,11 @@ class Scene:
     @cached_property
     def places(self) -> list[int]:
         """The places that the refusal is about: the refused one, those that link the pages it names, and those above; or the one
-        to which the scene is narrowed."""
+        to which the scene is narrowed. Of a page that is mapped those of the leaves."""
         if self.focus is not None:
             return [self.focus]
+        if self.is_about_leaves and self.held:
+            return [*self.held]
         event = self.event
         first = [event.place] if event.word == "w" else []
         pages = [event.page, event.next_page, self.reported or None]
@@ -154,6 +156,11 @@ class Scene:
     def is_about_left(self) -> bool:
         """Whether rule 12 reports a root that was given up."""
         return self.refusal.name == "tag-conflict" and any(line.event.page == self.refusal.at for line in self.of_word("unroot"))
+
+    @property
+    def is_about_leaves(self) -> bool:
+        """Whether rule 18 reports a page that a leaf maps."""
+        return self.refusal.name == "table-mapped"
 
     @cached_property
     def kinds(self) -> list[str]:
@@ -209,10 +216,19 @@ class Scene:
         between = [line.event.pe for line in self.in_window("tlbi", "dsb")]
         return list(dict.fromkeys([*first, self.event.pe, *between[::-1]]))[:PES_TRIED]
 
+    @cached_property
+    def named(self) -> set[int | None]:
+        """The pages that the lines name."""
+        return {page for line in (*self.lines, *self.later) for page in (line.event.page, line.event.next_page, line.event.base)}
+
+    def unused_output(self, span: int) -> int:
+        """The first output of so many bytes in which no page is that a line names."""
+        used = {page // span for page in self.named if page is not None}
+        return next(at for at in itertools.count(span, span) if at // span not in used)
+
     def unused_pages(self, count: int) -> list[int]:
         """Pages that no line names, from the least that one does on."""
-        lines = (*self.lines, *self.later)
-        named = {page for line in lines for page in (line.event.page, line.event.next_page, line.event.base)}
+        named = self.named
         first = min((page for page in named if page), default=0x4000_0000)
         if first + (len(named) + count) * PAGE_BYTES >= 1 << 48:
             first = 0x4000_0000

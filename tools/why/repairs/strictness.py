@@ -5,6 +5,7 @@ program says is held.
 from __future__ import annotations
 
 from why.asking.holding import OF_PLACES, Held, Places
+from why.asking.mapping import READ_ONLY
 from why.asking.places import Place
 from why.asking.program import Program, Verdict
 from why.log import words
@@ -19,6 +20,7 @@ CHILDREN = "{} takes a part of the range below {}, and there more is held: bbm w
 OWN_PE = "of {} nothing is held at PE {}, which flushed its own TLB, and no other PE ever loaded the root: bbm wants a flush at each PE"
 ROLLOVER = "nothing of the root is held at PE {}, which loads the tag: the architecture asks no more of a PE whose TLB is its own, and bbm " \
     "wants a flush at each PE that had the tag"
+PERMISSIONS = "no guest can write the page through what maps it, a leaf {}: bbm doesn't look at permissions"
 
 
 def by_address(line: Line) -> bool:
@@ -65,6 +67,8 @@ class Strictness:
     def named(self) -> list[str]:
         if self.refusal.name == "tag-conflict":
             return self.of_rollover()
+        if self.scene.is_about_leaves:
+            return [PERMISSIONS.format(READ_ONLY)] if self.held and all(READ_ONLY in one.told for one in self.held) else []
         if self.refusal.name not in OF_PLACES:
             return []
         places = [one for one in self.held if one.place is not None]

@@ -11,6 +11,7 @@ from itertools import islice
 
 from why.asking.holding import Held, held_at
 from why.asking.least import Shrinker, reduced
+from why.asking.mapping import TABLE_MAPPED, mapping_at
 from why.asking.program import Answer, Program, Verdict
 from why.log.lines import Line, Lines, Log, Numbers, event_of, header_of
 from why.repairs.changes import Change, Move, Put, Swap, edited, position_of
@@ -249,7 +250,7 @@ def use_after_free(shrinker: Shrinker, change: Change) -> str:
 
 def studied(program: Program, log: Log, refusal: Verdict) -> Study:
     shrinker = Shrinker(program, log, refusal)
-    kept = held_at(program, log, refusal)
+    kept = (mapping_at if refusal.name == TABLE_MAPPED else held_at)(program, log, refusal)
     near_tags = shrinker.index.tags_near()
     places = tuple(one.place for one in kept if one.place is not None)
     tried = shrinker.with_attempts([one.line.at for one in kept])

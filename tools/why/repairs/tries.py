@@ -9,8 +9,9 @@ from collections.abc import Callable, Iterable, Iterator
 from dataclasses import replace
 from itertools import combinations
 
+from why.asking.places import LAST_LEVEL
 from why.log import words
-from why.log.lines import PAGE_BYTES, Header, Line
+from why.log.lines import ADDRESS_BITS, PAGE_BYTES, Header, Line
 from why.repairs.changes import Change, Drop, Kind, Move, Swap, one, puts
 from why.repairs.flushes import Family, away, broadcast, elsewhere, is_about_tags, loading, operands, sequences, under_its_vmid, whole_sequences
 from why.repairs.flushes import with_pe, with_words
@@ -19,6 +20,8 @@ from why.repairs.scene import Scene
 NEAR = 8
 LARGEST = 4
 NG, CONTIGUOUS = 1 << 11, 1 << 52
+# How much a leaf may map, by its bits 1:0.
+SPANS = {1: (PAGE_BYTES << 18, PAGE_BYTES << 9), 3: (PAGE_BYTES,)}
 LEFT_OUT = {"root", "lock", "unlock", "null", "isb", "init"}
 BY_FLUSHES = ("break-before-make", "limbo-make", "tag-conflict", "root-in-use")
 
@@ -183,6 +186,37 @@ def page_in_use(scene: Scene) -> Iterator[Change]:
     yield given_up + zeroed(scene, page)
 
 
+# ---- leaves over tables
+
+def made_clean(scene: Scene) -> Iterator[Change]:
+    """The last `init` of the page that is reported, moved before the refused line, or a further one there."""
+    made = [line for line in scene.lines[:-1] if line.event.word == "init" and line.event.page == scene.reported]
+    yield from (one(Move(line.at, scene.refused.at - 1)) for line in made[-1:])
+    yield zeroed(scene, scene.reported)
+
+
+def mapped_elsewhere(scene: Scene) -> Iterator[Change]:
+    """Another output, in which no page is that the log names, for what may be a leaf that maps the page which is reported."""
+    why = f"maps the page {hex(scene.reported)}, which is a table"
+    for line in scene.of_word("w")[::-1]:
+        for span in SPANS.get(line.event.value & 3, ()):
+            if line.event.value & ADDRESS_BITS == scene.reported & -span:
+                value = line.event.value & ~ADDRESS_BITS | scene.unused_output(span)
+                yield with_words(line, (line.event.rest[0], hex(value)), Kind.VALUE, why=why)
+
+
+def linked_elsewhere(scene: Scene) -> Iterator[Change]:
+    """Another page linked in the place of the one that is reported."""
+    page, = scene.unused_pages(1)
+    is_leaf = lambda line: (spot := scene.spot(line.event.place)) is not None and spot.level == LAST_LEVEL
+    yield from (with_link(scene, line, page) for line in linking(scene) if line.event.next_page == scene.reported and not is_leaf(line))
+
+
+def table_mapped(scene: Scene) -> Iterator[Change]:
+    """A page that was mapped is made clean; else a leaf that comes over a table maps another one."""
+    return made_clean(scene) if scene.held else mapped_elsewhere(scene)
+
+
 # ---- registers and tags
 
 def root_of_kind(scene: Scene) -> str:
@@ -271,7 +305,7 @@ TRIES: dict[str, Callable[[Scene], Iterator[Change]]] = {
     "wrong-world": wrong_world, "no-lock": no_lock, "null-written": null_written, "not-fresh": not_fresh,
     "rewritten-fresh": rewritten_fresh, "bad-kind": bad_kind, "global-user": global_user, "page-in-use": page_in_use,
     "no-root": no_root, "root-in-use": switched_away, "unsynced-vmid": unsynced_vmid, "lock-busy": lock_busy,
-    "lock-not-mine": lock_not_mine, "tag-conflict": other_tag,
+    "lock-not-mine": lock_not_mine, "tag-conflict": other_tag, "table-mapped": table_mapped,
 }
 
 
@@ -288,8 +322,10 @@ def of_rule(scene: Scene, size: int) -> Iterator[Family]:
         yield from each(change for change in TRIES[rule](scene) if change.size == size)
     if rule == "bad-operand" and size == 1:
         yield from other_operands(scene)
-    if rule in (*BY_FLUSHES, "page-in-use"):
+    if rule in (*BY_FLUSHES, "page-in-use") or scene.is_about_leaves and scene.held:
         yield from sequences(scene, size)
+    if scene.is_about_leaves and scene.held and size > 1:
+        yield from (flushed + zeroed(scene, reported) for flushed in sequences(scene, size - 1))
 
 
 def families(scene: Scene, size: int) -> Iterator[Family]:
@@ -319,10 +355,12 @@ def largest(scene: Scene) -> Iterator[Family]:
     rule = scene.refusal.name
     if rule in TRIES:
         yield from each(change for change in TRIES[rule](scene) if change.size >= LARGEST)
-    if rule in (*BY_FLUSHES, "page-in-use"):
+    if rule in (*BY_FLUSHES, "page-in-use") or scene.is_about_leaves and scene.held:
         yield from whole_sequences(scene)
     if rule == "not-fresh":
         yield from each(both_linked_elsewhere(scene))
+    if scene.is_about_leaves:
+        yield from each(linked_elsewhere(scene))
 
 
 def last_resort(scene: Scene) -> Iterator[Family]:

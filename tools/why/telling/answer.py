@@ -105,7 +105,9 @@ class Parts:
 
     def held(self) -> list[str]:
         """What still holds at the refused line."""
-        title = f"What is still held before line {self.study.refusal.line}, by bbm"
+        refusal = self.study.refusal
+        title = f"What maps or mapped the page {hex(refusal.at)}, by bbm" if self.study.scene.is_about_leaves \
+            else f"What is still held before line {refusal.line}, by bbm"
         told = [wrapped(one.told, self.style) for one in self.study.held]
         return [self.head(title), *told] if told else []
 
