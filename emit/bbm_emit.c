@@ -699,12 +699,15 @@ UNTRACED const char *bbm_version_5(char *header, unsigned int words)
 
 	if (*end == 'h' && (words & BBM_INORDER))
 		return "the word inorder is of kernels alone";
+	if (*end == 'k' && (words & BBM_ISOLATED))
+		return "the word isolated is of hypervisors alone";
 	put_text(header, "bbmlog 5");
 	while (*end)
 		end++;
 	if (end[-1] == '-')
 		end -= 2; /* the word `cnp` stands or doesn't */
 	end = put_text(end, words & BBM_UNFLUSHED ? " unflushed" : "");
-	*put_text(end, words & BBM_INORDER ? " inorder" : "") = '\0';
+	end = put_text(end, words & BBM_INORDER ? " inorder" : "");
+	*put_text(end, words & BBM_ISOLATED ? " isolated" : "") = '\0';
 	return 0;
 }

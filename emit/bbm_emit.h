@@ -444,6 +444,7 @@ const char *bbm_hyp_header(char *header, unsigned int pes, uint64_t tcr_el2, uin
 enum bbm_header_word {
 	BBM_UNFLUSHED = 1, /* a root may be given up while TLBs may keep what was read through it */
 	BBM_INORDER = 2,   /* a kernel's root registers come into use in the order of the writes */
+	BBM_ISOLATED = 4,  /* no guest may reach a hypervisor's tables, which is judged */
 };
 
 /**

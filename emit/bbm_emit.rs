@@ -533,6 +533,8 @@ pub struct Words {
     pub unflushed: bool,
     /// A kernel's root registers come into use in the order of their writes.
     pub inorder: bool,
+    /// No guest may reach a hypervisor's tables, which is judged.
+    pub isolated: bool,
 }
 
 impl Version {
@@ -546,7 +548,13 @@ impl Version {
             Version::Four => (true, Words::default()),
             Version::Five(words) => (false, words),
         };
-        let said = [(cnp, " cnp"), (is_field && !cnp, " -"), (words.unflushed, " unflushed"), (words.inorder, " inorder")];
+        let said = [
+            (cnp, " cnp"),
+            (is_field && !cnp, " -"),
+            (words.unflushed, " unflushed"),
+            (words.inorder, " inorder"),
+            (words.isolated, " isolated"),
+        ];
         said.into_iter().filter(|(is_said, _)| *is_said).try_for_each(|(_, word)| f.write_str(word))
     }
 }
@@ -630,6 +638,9 @@ impl Header {
     pub fn version_5(mut self, words: Words) -> Result<Header, &'static str> {
         if words.inorder && matches!(self, Header::Hyp { .. }) {
             return Err("the word inorder is of kernels alone");
+        }
+        if words.isolated && matches!(self, Header::Kernel { .. }) {
+            return Err("the word isolated is of hypervisors alone");
         }
         let (Header::Kernel { version, .. } | Header::Hyp { version, .. }) = &mut self;
         *version = Version::Five(words);

@@ -173,7 +173,7 @@ static void headers(void)
 		puts(wrong ? wrong : text);
 	}
 	puts(bbm_kernel_header(text, 129, tcr_el1[0], 0));
-	for (i = 0; i < 8; i++) {
+	for (i = 0; i < 16; i++) {
 		bbm_kernel_header(text, 4, tcr_el1[1], i % 2);
 		wrong = bbm_version_5(text, i / 2);
 		puts(wrong ? wrong : text);

@@ -163,8 +163,8 @@ fn headers() {
     ];
     let kernels = tcr_el1.iter().enumerate().map(|(i, tcr)| Header::kernel(4, *tcr, i % 2 == 0));
     let hyps = el2.iter().enumerate().map(|(i, (tcr, vtcr))| Header::hyp(4, *tcr, *vtcr, i % 2 == 0));
-    let later = (0..8).flat_map(|i| {
-        let (cnp, words) = (i % 2 == 1, Words { unflushed: i / 2 % 2 == 1, inorder: i / 4 == 1 });
+    let later = (0..16).flat_map(|i| {
+        let (cnp, words) = (i % 2 == 1, Words { unflushed: i / 2 % 2 == 1, inorder: i / 4 % 2 == 1, isolated: i / 8 == 1 });
         [Header::kernel(4, tcr_el1[1], cnp), Header::hyp(4, el2[1].0, el2[1].1, cnp)]
             .map(|header| header.and_then(|header| header.version_5(words)))
     });

@@ -3,7 +3,7 @@
  *
  *     merge [OPTION..] HEADER DUMP..
  *     merge --header kernel PES TCR_EL1 CNP [5 [unflushed] [inorder]]
- *     merge --header hyp PES TCR_EL2 VTCR_EL2 CNP [5 [unflushed]]
+ *     merge --header hyp PES TCR_EL2 VTCR_EL2 CNP [5 [unflushed] [isolated]]
  *
  * HEADER is the first line of the log, as "bbmlog 4 hyp 2 1 1 1 -". A DUMP is a file of lines "TICKET LINE", as bbm_read
  * writes them, or of the slots of a buffer as they lay in memory, little-endian. A PE's lines may be split over several
@@ -652,8 +652,8 @@ static void merge_growing(struct dump *dumps, int count)
 
 /* ---- the words of the command */
 
-/* The words of version 5 behind these, each of which stands or doesn't: `unflushed`, and `inorder` of a kernel; and what
- * stands behind them. */
+/* The words of version 5 behind these, each of which stands or doesn't: `unflushed`, and `inorder` of a kernel or `isolated`
+ * of a hypervisor; and what stands behind them. */
 static char *const *read_words(char *const *words, bool hyp, unsigned *said)
 {
 	*said = 0;
@@ -661,6 +661,8 @@ static char *const *read_words(char *const *words, bool hyp, unsigned *said)
 		*said |= BBM_UNFLUSHED;
 	if (!hyp && *words && !strcmp(*words, "inorder") && words++)
 		*said |= BBM_INORDER;
+	if (hyp && *words && !strcmp(*words, "isolated") && words++)
+		*said |= BBM_ISOLATED;
 	return words;
 }
 
@@ -719,7 +721,7 @@ static __attribute__((__noreturn__)) void usage(void)
 {
 	end_with(WRONG_WORDS, "usage: merge [--strip PREFIX] [--tickets N] [--follow] HEADER DUMP.. | "
 		 "merge --header kernel PES TCR_EL1 CNP [5 [unflushed] [inorder]] | "
-		 "merge --header hyp PES TCR_EL2 VTCR_EL2 CNP [5 [unflushed]]");
+		 "merge --header hyp PES TCR_EL2 VTCR_EL2 CNP [5 [unflushed] [isolated]]");
 }
 
 /* merge --header: the header that the registers give. The words end with a null one. */

@@ -107,7 +107,7 @@ def faulty(chance):
         return chance.choice([b"bbmlog 6", b"bbmlog", b"", b"bbmlog  1", b"bbmlog 01 hyp", b"BBMLOG 1"]) + b"\n" + rest
     if cause == 2:
         fields = header.split(b" ")
-        at, words = chance.randrange(2, len(fields)), [b" 1", b" cnp", b" unflushed", b" inorder", b" -"]
+        at, words = chance.randrange(2, len(fields)), [b" 1", b" cnp", b" unflushed", b" inorder", b" isolated", b" -"]
         some = [b"x", b"", b"3", b"0", b"129", b"32", b"inorder", b"isolated", fields[at] + b"\r", fields[at] + chance.choice(words)]
         fields[at] = chance.choice(some)
         return b" ".join(fields) + b"\n" + rest

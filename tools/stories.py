@@ -6,7 +6,7 @@ and `tools/try` judge them, and nothing here says what the verdict is.
 """
 from collections import namedtuple
 
-Header = namedtuple("Header", "version hyp pes starts pages asids cnp unflushed inorder", defaults=(False, False))
+Header = namedtuple("Header", "version hyp pes starts pages asids cnp unflushed inorder isolated", defaults=(False, False, False))
 Root = namedtuple("Root", "page kind lock start number")
 Table = namedtuple("Table", "root level first above")
 
@@ -34,7 +34,7 @@ def any_header(chance):
     pes = chance.choice([1, 2, 2, 2, 3, 4, 64, 128 if version > 2 else 64])
     return Header(version, chance.random() < 0.5, pes, (chance.choice([0, 1, 1, 2]), start),
                   1 if start == 0 else chance.choice([1, 1, 2, 4, 16]), chance.choice(["ttbr0", "ttbr1"]),
-                  version > 1 and chance.random() < 0.3, version > 4 and chance.random() < 0.6, version > 4 and chance.random() < 0.6)
+                  version > 1 and chance.random() < 0.3, *(version > 4 and chance.random() < 0.6 for _ in range(3)))
 
 
 def text_of(header):
@@ -47,7 +47,7 @@ def words_of(header):
     """What a header says behind its numbers, with the space before it."""
     if header.version < 5:
         return "" if header.version == 1 else " cnp" if header.cnp else " -"
-    return " cnp" * header.cnp + " unflushed" * header.unflushed + " inorder" * (header.inorder and not header.hyp)
+    return " cnp" * header.cnp + " unflushed" * header.unflushed + (" isolated" * header.isolated if header.hyp else " inorder" * header.inorder)
 
 
 class Story:
@@ -86,7 +86,9 @@ class Story:
         """A leaf that keeps the rules at the kind and the level, or an invalid value where there is none."""
         if level == 0:
             return 0
-        number = self.chance.randrange(1, 64) if salt is None else salt
+        # (the tables are in the first GiB behind the null one)
+        least = 2 if kind == "s2" and level == 1 and self.header.isolated else 1
+        number = self.chance.randrange(least, 64) if salt is None else salt
         shift = {1: 30, 2: 21, 3: 12}[level]
         user = 0x800 if kind == "ttbr0" or self.chance.random() < 0.3 else 0
         return (number << shift) | 0x700 | user | (3 if level == 3 else 1)
@@ -396,6 +398,44 @@ class Story:
         for page in [page for page, table in self.tables.items() if table.root == root]:
             self.tables[page] = self.tables[page]._replace(root=self.roots[-1])
 
+    def guest_place(self):
+        """A place of level 3 of a stage 2 tree that holds nothing, and its root."""
+        root = self.root("s2")
+        page = root.page
+        for level in range(root.start, 3):
+            place, child = page + 8 * self.chance.randrange(4, 500), self.fresh_page()
+            if place in self.held:
+                return None, root
+            self.under_lock(root, self.pe(), lambda pe, place=place, child=child: self.store(pe, place, child | 3))
+            self.held[place], page = child | 3, child
+            first = self.tables[place & ~0xfff].first + ((place & 0xfff) >> 3 << 9 * (3 - level))
+            self.tables[child] = Table(root, level + 1, first, place)
+        return self.place(page), root
+
+    def lend(self, left_out=None):
+        """A page is mapped to a guest, unmapped and flushed, and may become a table then; a step may be left out. The page, if any."""
+        place, root = self.guest_place() if self.header.hyp else (None, None)
+        if place is None:
+            return None
+        page = self.page()
+
+        def write(pe):
+            self.store(pe, place, page | 0x7ff)
+            steps = [lambda: self.store(pe, place, self.invalid()), lambda: self.say(f"dsb {pe} {self.chance.choice(PUBLISHING)}"),
+                     lambda: self.flush(pe, self.flushes(self.tables[place & ~0xfff], place, False))]
+            for number, step in enumerate(steps):
+                if number != left_out:
+                    step()
+
+        self.under_lock(root, self.pe(), write)
+        return page
+
+    def come_back(self):
+        """A guest's page that is flushed and may be a table."""
+        page = self.lend() if self.header.isolated else None
+        if page is not None:
+            self.free.append(page)
+
     def hand_over(self):
         """A register's root and its tag go to another root."""
         old = self.root()
@@ -428,7 +468,7 @@ class Story:
         self.say(f"unlock {pe} {lock}")
 
     GOOD = [map_a_leaf] * 5 + [link_a_table] * 5 + [replace] * 5
-    GOOD += [several, load, load, switch, switch, give_up, hand_over, new_root, barrier, flush_for_nothing, reserve, lock_and_unlock]
+    GOOD += [several, load, load, switch, switch, give_up, hand_over, new_root, barrier, flush_for_nothing, reserve, lock_and_unlock, come_back]
 
     # ---- slips: each is meant to break the rule of its number, where the world has it
 
@@ -584,6 +624,18 @@ class Story:
         else:
             self.say("unlock 0 8")
 
+    def slip_18(self):
+        if self.chance.random() < 0.5:
+            page = self.lend(self.chance.randrange(3))
+            if page is not None:
+                self.new_root("el2", page=page)
+            return
+        page, table = self.table(1)
+        if page is not None:
+            span = 1 << 39 - 9 * table.level
+            value = self.chance.choice([*self.tables]) & -span | 0x700 | (3 if table.level == 3 else 1)
+            self.under_lock(table.root, self.pe(), lambda pe: self.store(pe, page + 8 * 21, value))
+
     def slip_of_values(self):
         """Nine writes of a register by one PE without an ISB."""
         root = self.root()
@@ -591,7 +643,7 @@ class Story:
             self.load(root, 0, False)
 
     SLIPS = [slip_1, slip_2, slip_3, slip_4, slip_4, slip_5, slip_6, slip_7, slip_8, slip_9, slip_10, slip_11, slip_12, slip_13,
-             slip_14, slip_15, slip_16, slip_17, slip_of_values]
+             slip_14, slip_15, slip_16, slip_17, slip_18, slip_18, slip_of_values]
 
 
 def spoiled(chance, lines):

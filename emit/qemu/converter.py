@@ -9,7 +9,7 @@ or a pipe with --follow, which writes each line of the log as soon as the trace 
 The log is one of version 5, unless --header has another, and says what the machine did. Each departure from it is a
 normalisation with a name, is made only where --allow has the name, and is told on standard error with how often it was made
 and what it weakens: --list names them, and the words that --words can give to the header, each of which is told as the
-premise that it is. --suggest judges the log, tries which of them get past each refusal, and prints the least set that does,
+premise or the demand that it is. --suggest judges the log, tries which of them get past each refusal, and prints the least set that does,
 with the line, rule and symbol.
 
 Exit status 0; 1 where a refusal is left that --suggest gets not past. With the others nothing is judged, and standard error
@@ -1028,7 +1028,7 @@ class Search:
         self.world, self.symbols, self.lines, self.facts = world, symbols, lines, facts
         self.names = [name for name in normalisations.of_world(normalisations.ALL, asked.world)
                       if name != "snapshot" and is_of_version(name, asked.header)]
-        self.words = [] if asked.header else normalisations.of_world(normalisations.WORDS, asked.world)
+        self.words = [] if asked.header else normalisations.of_world(normalisations.premises(), asked.world)
         self.begin("snapshot" in asked.allow)
 
     def begin(self, late):
@@ -1132,10 +1132,12 @@ def add_normalisation(allow, name):
 
 
 def about(name, often=""):
-    """A normalisation with what it does, or a word with its premise, and what is lost by it."""
-    if name in normalisations.WORDS:
-        word = normalisations.WORDS[name]
+    """A normalisation with what it does, or a word with its premise, and what is lost by it; or with what it asks and misses."""
+    word = normalisations.WORDS.get(name)
+    if isinstance(word, normalisations.Premise):
         return f"{name}, a premise that the header makes: {word.premise}. It weakens: {word.weakens}"
+    if word:
+        return f"{name}, which the header asks for: {word.asks}. It misses: {word.misses}"
     one = normalisations.ALL[name]
     return f"{name}{often}: {one.does}. It weakens: {one.weakens}"
 
@@ -1160,8 +1162,8 @@ def list_normalisations():
         when = f"; {normalisations.WHEN[one.versions]}" * (one.versions != normalisations.ANY)
         print(f"{name} ({', '.join(one.worlds)}{when})\n    {one.does}.\n    It weakens: {one.weakens}.")
     for name, one in normalisations.WORDS.items():
-        print(f"{name}, a word of the header ({', '.join(one.worlds)})\n    The premise that {one.premise}.\n"
-              f"    It weakens: {one.weakens}.")
+        says, lost = ("The premise that", "weakens") if isinstance(one, normalisations.Premise) else ("It asks that", "misses")
+        print(f"{name}, a word of the header ({', '.join(one.worlds)})\n    {says} {one[1]}.\n    It {lost}: {one[2]}.")
 
 
 class Words(argparse.ArgumentParser):

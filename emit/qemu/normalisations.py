@@ -1,10 +1,11 @@
 # SPDX-License-Identifier: Apache-2.0 OR GPL-2.0-or-later
-"""The departures from what the machine did that bbm_convert can make, and the premises that a header can make by a word.
-Each is off unless asked for.
+"""The departures from what the machine did that bbm_convert can make, and what a header can say by a word: a premise, or that
+more is judged. Each is off unless asked for.
 
 For each: the worlds in which it has a meaning, and what the judgement loses by it; of a normalisation what it does, and the
-versions of the header under which it is made; of a word what it takes to be true. `--suggest` tries them in this order,
-those without a word first, and takes the first of those that get past a refusal.
+versions of the header under which it is made; of a premise what it takes to be true. Of a demand what it asks, and what it
+misses in such a log. `--suggest` tries them in this order, those without a word first, and takes the first of those that get
+past a refusal. It tries no demand, which gets past none.
 """
 from collections import namedtuple
 
@@ -12,7 +13,8 @@ LATEST = 5  # version of the header
 ANY, BEFORE_WORDS, WITH_WORDS = range(1, LATEST + 1), range(1, 5), range(5, LATEST + 1)
 WHEN = {ANY: "", BEFORE_WORDS: "before version 5, which has the word inorder for it", WITH_WORDS: "from version 5 on"}
 Normalisation = namedtuple("Normalisation", "worlds does weakens versions", defaults=(ANY,))
-Word = namedtuple("Word", "worlds premise weakens")
+Premise = namedtuple("Premise", "worlds premise weakens")
+Demand = namedtuple("Demand", "worlds asks misses")
 KERNEL, HYP = ("kernel", "vhe"), ("hyp",)
 
 ALL = {
@@ -47,15 +49,24 @@ ALL = {
 }
 
 
-# Words of the header, in its order. They are told of no line, and each says that something is true which no trace shows.
+# Words of the header, in its order. They are told of no line. A premise says that something is true which no trace shows.
 WORDS = {
-    "unflushed": Word(
+    "unflushed": Premise(
         (*KERNEL, *HYP), "no walk of a root that was given up goes on, though TLBs may keep what was read through it",
         "a walk that does isn't found"),
-    "inorder": Word(
+    "inorder": Premise(
         KERNEL, "the root registers of a PE come into use in the order in which it wrote them",
         "a walk by a newer value of one register and an older one of the other isn't found"),
+    "isolated": Demand(
+        HYP, "no page that a leaf of stage 2 maps is a table, and none that one mapped since the page's `init` becomes one",
+        "an `init` stands where its page is linked, so a page that was cleared while a guest could write it, and that no guest "
+        "reaches at the link, isn't found"),
 }
+
+
+def premises():
+    """The words that are premises."""
+    return {name: word for name, word in WORDS.items() if isinstance(word, Premise)}
 
 
 def of_world(some, world):
