@@ -124,6 +124,23 @@ def pages_in_random_order(count):
     return Log(b"bbmlog 1 hyp 2 1 1 1", events())
 
 
+def stage_2_in_order(words=b""):
+    def log(count):
+        def events():
+            yield from new_root(BASE, b"s2")
+            used, output = 1, numbers(1 << 31, 4096)
+            for number in range(MOST_LAST_PAGES):
+                if number % 512 == 0:
+                    middle, used = page_at(used), used + 1
+                    yield from (new_page(middle), write(BASE + 8 * (number // 512), middle | 3))
+                page, used = page_at(used), used + 1
+                yield from (new_page(page), write(middle + 8 * (number % 512), page | 3))
+                yield from (write(page + 8 * index, next(output) | 0x7ff) for index in range(512))
+        return Log(b"bbmlog 5 hyp 2 1 1 1" + words, events())
+    log.__doc__ = "16,384 pages of a stage 2 tree are made, linked and filled one after another. At 8,402,942 events all are full."
+    return log
+
+
 def places_for(count, uses):
     """How many places of level 3 so many events can make and then use so often, and the pages for them."""
     pages = max(1, -(-count // (512 * (1 + uses) + 3)))
@@ -398,6 +415,7 @@ LOGS = {
     "pages_in_order": pages_in_order, "pages_in_random_order": pages_in_random_order, "broken_at_once": broken_at_once,
     "cleared_512": cleared_one_by_one(512), "cleared_4096": cleared_one_by_one(4096), "guests": guests, "asids": asids, "kernel": kernel,
     "kernel_unflushed": kernel_unflushed, "kernel_inorder": kernel_inorder, "guests_that_die": guests_that_die,
+    "stage_2_in_order": stage_2_in_order(), "stage_2_isolated": stage_2_in_order(b" isolated"),
     "linked_by_all": linked_by_all, "fan_of_512": fan_of_512, "roots_and_flushes": roots_and_flushes,
     "unanswered": unanswered, "registers": registers, "long_lines": long_lines, "crowd": crowd,
 }
