@@ -213,17 +213,16 @@ module _ (laws : (heading : Heading) → Laws heading) (old : ReplayState) (m1 m
       tracking = record { tracked = λ p. refl; known = λ p. refl; pages = refl };
     }
 
-  pub dsb_meets : (new : ReplayState) → MayMeet old (Dsb pe dsb) → SameFrame old new → new.unmapped ≡ old.unmapped
-      → pages_in new.index ≡ pages_in old.index → changes.BarriersPass
+  pub dsb_meets : MayMeet old (Dsb pe dsb) → changes.BarriersPass → ((p : ℕ) → is_tracked m2 p ≡ is_tracked old.map p)
+      → (new : ReplayState) → SameFrame old new → new.unmapped ≡ old.unmapped → pages_in new.index ≡ pages_in old.index
       → ((heading : Heading) (h : List Event) → roots.Stands old.roots heading h
       → roots.Stands new.roots heading (Dsb pe dsb ∷ h))
-      → ((p : ℕ) → is_tracked m2 p ≡ is_tracked old.map p)
       → (((a : ℕ) → node_in old.index (page_of a) ≡ None → marks_at m2 a ≡ None)
       → (((a : ℕ) → lost_table m1 m2 a ≡ false)
       → Leaves (view_of m2 old.index) (view_of m2 old.index) (is_held_by holding))
       → Leaves (view_of m2 old.index) (view_of new.map new.index) (is_held_by holding))
       → Meets old new (Dsb pe dsb) (Ok tt)
-  dsb_meets new may frame same pages pass taken tracked move =
+  dsb_meets may pass tracked new frame same pages taken move =
       meets_left laws (Dsb pe dsb) refl may frame same pages (λ heading h s fits. (
         pass.dsb heading h pe dsb,
         pass.dsb_limit h pe dsb,

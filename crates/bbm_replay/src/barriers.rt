@@ -61,8 +61,6 @@ impl ReplayState {
         publish(&mut self.map, silent, pe, dsb, n);
         if self.map.complete(pe, dsb, n) {
             self.index.prune(&mut self.map);
-            self.roots.complete(pe, dsb);
-            return;
         }
         self.roots.complete(pe, dsb);
     }
