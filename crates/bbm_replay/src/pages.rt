@@ -16,7 +16,7 @@ use crate::laws::{laws, rules};
 use crate::parts::ReplayState;
 use bbm_events::nulls_everywhere;
 use bbm_place_map::PlaceMap;
-use bbm_regimes::{Kind, Page, Pe};
+use bbm_regimes::{Kind, PLACES, Page, Pe};
 use bbm_roots::law_others;
 use bbm_rules::{Rule, StepFault};
 use std::alloc::Global;
@@ -30,7 +30,7 @@ fn is_zero(map: &PlaceMap, page: Page) -> bool
         return true;
     }
     let position = map.first_position(page);
-    for index in 0..512 {
+    for index in 0..PLACES {
         if map.value_from(&position, index) != 0 {
             return false;
         }

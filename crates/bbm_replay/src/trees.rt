@@ -13,7 +13,7 @@ use crate::guard::{cover_attached, judge_attached};
 use crate::laws::{laws, rules};
 use crate::parts::ReplayState;
 use bbm_place_map::PlaceMap;
-use bbm_regimes::{Kind, Page, Pe};
+use bbm_regimes::{Kind, PAGE_BYTES, Page, Pe};
 use bbm_rules::{Rule, StepFault};
 use bbm_tree_index::{Attach, Detach, TreeIndex};
 use std::alloc::Global;
@@ -22,7 +22,7 @@ use std::alloc::Global;
 fn is_fresh_address(index: &TreeIndex, map: &PlaceMap, at: u64) -> bool
     requires same { SharesNumbers index.now map.now }
     requires below { at < 2 ^ 48 }
-    requires aligned { at % 4096 ≡ 0 }
+    requires aligned { at % PAGE_BYTES ≡ 0 }
     ensures { result ≡ fresh_in index.now at }
 {
     match Page::new(at) {
@@ -34,11 +34,11 @@ fn is_fresh_address(index: &TreeIndex, map: &PlaceMap, at: u64) -> bool
 /// The first of so many consecutive pages that isn't fresh.
 fn first_unfresh(index: &TreeIndex, map: &PlaceMap, page: Page, count: u8) -> Option<u64>
     requires same { SharesNumbers index.now map.now }
-    requires low { page + 4096 * count ≤ 2 ^ 48 }
+    requires low { page + PAGE_BYTES * count ≤ 2 ^ 48 }
     ensures { result ≡ least (filter (λ p. not (fresh_in index.now p)) (pages_from page count)) }
 {
     for i in 0..count {
-        let at = page.get() + 4096 * u64::from(i);
+        let at = page.get() + PAGE_BYTES * u64::from(i);
         if !is_fresh_address(index, map, at) {
             return Some(at);
         }

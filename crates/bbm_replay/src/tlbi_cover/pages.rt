@@ -10,7 +10,7 @@ ghost use Rattle.bbm_tree_index.specs.Nodes.{path_at};
 
 use crate::tlbi_cover::Covering;
 use bbm_place_map::{Answer, PlaceMap};
-use bbm_regimes::{NoMemory, Page, Pe, PeMask, Place};
+use bbm_regimes::{NoMemory, PLACES, Page, Pe, PeMask, Place};
 use bbm_rules::law_notes_keep_the_events;
 use bbm_tlbi_scope::{Cover, Scope};
 use bbm_tree_index::Path;
@@ -42,7 +42,7 @@ fn names_none(scope: &Scope, place: Place, path: &Path) -> bool
     if named.lo < start {
         named.hi < start
     } else {
-        (named.lo - start) / 512 >= width
+        (named.lo - start) / PLACES >= width
     }
 }
 

@@ -17,7 +17,7 @@ ghost use Rattle.bbm_replay.specs.OnePage.{FitTogether, MetFrom, MetFromAll, cov
 
 use crate::tlbi_cover::Covering;
 use bbm_place_map::{Found, PlaceMap};
-use bbm_regimes::{Kind, NoMemory, Page, Place};
+use bbm_regimes::{Kind, NoMemory, PAGE_BYTES, Page, Place};
 use bbm_tlbi_scope::Family;
 use bbm_tree_index::{Path, next_of, place_below};
 use smallvec::SmallVec;
@@ -118,7 +118,7 @@ impl Covering<'_> {
             pages.now.count (IsSettled map.now self.now found.new.items)) }
     {
         for part in 0..pages.count {
-            let addr = pages.first.get() + 4096 * part as u64;
+            let addr = pages.first.get() + PAGE_BYTES * part as u64;
             self.descend(map, input, addr, found)?;
         }
         Ok(())
