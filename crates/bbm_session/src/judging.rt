@@ -234,18 +234,14 @@ impl<C: Checker> Taker for Judging<C> {
     // Each kind has a way of its own, on which it is known which event it is.
     #[inline(always)]
     fn take_ahead(&mut self, number: u64, header: &Header, bytes: &[u8]) -> Option<usize> {
-        if let Some(taken) = take_kind::<C, Writes>(self, number, header, bytes) {
-            return taken;
+        macro_rules! take_one_of {
+            ($($kind:ty),+) => {
+                $(if let Some(taken) = take_kind::<C, $kind>(self, number, header, bytes) {
+                    return taken;
+                })+
+            };
         }
-        if let Some(taken) = take_kind::<C, Dsbs>(self, number, header, bytes) {
-            return taken;
-        }
-        if let Some(taken) = take_kind::<C, Tlbis>(self, number, header, bytes) {
-            return taken;
-        }
-        if let Some(taken) = take_kind::<C, Isbs>(self, number, header, bytes) {
-            return taken;
-        }
-        take_kind::<C, ByWord>(self, number, header, bytes).flatten()
+        take_one_of!(Writes, Dsbs, Tlbis, Isbs, ByWord);
+        None
     }
 }
