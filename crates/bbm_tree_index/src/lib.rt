@@ -7,8 +7,7 @@
 //! - Call `track` at each page that is initialised, `nullify` at each that is declared null, `prune` after a DSB by
 //!   which a table's place came to hold nothing, and `detach` where a root goes.
 //! - `prepare` tells whether pages can be attached, and which page or place is in the way; `attach_prepared` attaches
-//!   them. `attach` does both. `attached_pages` lists the pages between the two, with the kind and the level at which
-//!   each is read.
+//!   them. `attached_pages` lists the pages between the two, with the kind and the level at which each is read.
 //! - `role`, `is_fresh`, `is_null`, `is_in_tree`, `pages`, `path` and `in_limbo` tell what the calls come to. `path`
 //!   takes the position of a place in the map, and `is_childless` its path.
 //!   `place_translating` tells where one goes on the way down along an input page; from there `place_below` does so

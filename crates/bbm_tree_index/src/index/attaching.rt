@@ -1,11 +1,11 @@
 //! What can be attached to the trees, by a survey of it, and its attachment.
 
-ghost use Rattle.std.specs.Prelude.{◌≡◌, Contains, nat_eq, IfOk, IfErr, OnOk, OnErr};
+ghost use Rattle.std.specs.Prelude.{◌≡◌, Contains, nat_eq, IfOk, IfErr};
 ghost use Rattle.indexmap.specs.IndexMap.{get};
 ghost use Rattle.bbm_rules.specs.Tree.{Node};
 ghost use Rattle.bbm_place_map.specs.Map.{value_at};
 ghost use Rattle.bbm_tree_index.specs.Attaching.{Judges, MayJudge, names_pages};
-ghost use Rattle.bbm_tree_index.specs.Index.{SamePages, SameTracked, heading_of, fresh_in};
+ghost use Rattle.bbm_tree_index.specs.Index.{SameTracked, heading_of, fresh_in};
 ghost use Rattle.bbm_tree_index.specs.IndexAgreement.{SharesNumbers};
 ghost use Rattle.bbm_tree_index.specs.IndexChanges.{Attaches};
 ghost use Rattle.bbm_tree_index.specs.LeastPages.{IsSurvey};
@@ -167,26 +167,5 @@ impl TreeIndex {
         ensures tracked { SameTracked self.old self.new }
     {
         attach_all(&mut self.roles, map, &prepared.tables);
-    }
-
-    /// Attaches the named pages, and all that paths through fresh pages reach from them. Named pages of a root are
-    /// fresh. `NotFresh` with the least page exactly where such a path ends in a page that isn't fresh, where the named
-    /// pages of a root don't count, or two different paths end in one page; else `BadKind` with the least place exactly
-    /// where an attached page has a leaf with the Contiguous hint; else `GlobalUser` with the least place exactly where,
-    /// in a tree of the lower range, it has a leaf for every ASID. Or `NoMemory` where there is none. It takes time by
-    /// the number of pages, not of paths. A refusal changes nothing.
-    #[inline(never)]
-    pub fn attach(&mut self, alloc: Global, map: &PlaceMap, at: Attach) -> Result<(), TreeFault>
-        requires same { SharesNumbers self.old map.now }
-        requires may { MayJudge self.old at }
-        requires named { AreNamedFresh self.old at }
-        ensures judged { Judges (fresh_in self.old) (value_at map.now) (starts_of self.old at) (names_pages at) result }
-        ensures attached { OnOk result (Attaches (value_at map.now) at self.old self.new) }
-        ensures tracked { SameTracked self.old self.new }
-        ensures same { OnErr result (SamePages self.old self.new) }
-    {
-        let prepared = self.prepare(alloc, map, at)?;
-        self.attach_prepared(map, &prepared);
-        Ok(())
     }
 }
