@@ -13,7 +13,7 @@ use crate::held::{are_eight_zero, first_position};
 use crate::mark::Mark;
 use crate::survey::entry_at;
 use bbm_place_map::{PlaceMap, Position};
-use bbm_regimes::{Kind, Level, PLACES, Page};
+use bbm_regimes::{Kind, Level, PAGE_BYTES, PLACES, Page};
 use indexmap::IndexMap;
 
 /// Contiguous, bit 52 of a leaf. Source: Arm ARM (DDI 0487), "VMSAv8-64 descriptor formats".
@@ -61,7 +61,7 @@ fn are_eight_harmless(
     from: u64,
 ) -> bool
     requires position { IsPosition map.now position.now }
-    requires first { position.now.place % 4096 ≡ 0 }
+    requires first { position.now.place % PAGE_BYTES ≡ 0 }
     requires within { from + 8 ≤ PLACES }
     requires some { 1 ≤ bits }
     ensures { result ≡ true → (j : ℕ) → from ≤ j → j < from + 8

@@ -8,7 +8,7 @@ ghost use Rattle.bbm_tree_index.specs.HeldCores.{core_at, holds_at, is_at, next_
 use bbm_descriptor::Core;
 use bbm_entry_state::EntryState;
 use bbm_place_map::{PlaceMap, Position};
-use bbm_regimes::{Kind, Level, PLACES, Page, Place};
+use bbm_regimes::{Kind, Level, PAGE_BYTES, PLACES, Page, Place};
 
 /// What the place holds at this kind and level.
 pub fn core_at(map: &PlaceMap, kind: Kind, level: Level, place: Place) -> Option<Core>
@@ -53,7 +53,7 @@ pub fn place_of(page: Page, index: u64) -> Place
 pub fn first_position(map: &PlaceMap, page: Page) -> Option<Position>
     ensures place { IfSome result (λ position. position.place ≡ page) }
     ensures position { IfSome result (λ position. IsPosition map.now position) }
-    ensures first { IfSome result (λ position. position.place % 4096 ≡ 0) }
+    ensures first { IfSome result (λ position. position.place % PAGE_BYTES ≡ 0) }
     ensures zero { result ≡ None → (a : ℕ) → page_of a ≡ page → value_at map.now a ≡ 0 }
 {
     match map.position(place_of(page, 0)) {
@@ -73,7 +73,7 @@ pub fn first_position(map: &PlaceMap, page: Page) -> Option<Position>
 #[inline(always)]
 fn four_joined(map: &PlaceMap, position: &Position, from: u64) -> u64
     requires position { IsPosition map.now position.now }
-    requires first { position.now.place % 4096 ≡ 0 }
+    requires first { position.now.place % PAGE_BYTES ≡ 0 }
     requires within { from + 4 ≤ PLACES }
     ensures { result ≡ 0 → (j : ℕ) → from ≤ j → j < from + 4 → value_at map.now (position.now.place + 8 * j) ≡ 0 }
 {
@@ -87,7 +87,7 @@ fn four_joined(map: &PlaceMap, position: &Position, from: u64) -> u64
 #[inline(always)]
 pub fn are_eight_zero(map: &PlaceMap, position: &Position, from: u64) -> bool
     requires position { IsPosition map.now position.now }
-    requires first { position.now.place % 4096 ≡ 0 }
+    requires first { position.now.place % PAGE_BYTES ≡ 0 }
     requires within { from + 8 ≤ PLACES }
     ensures { result ≡ true → (j : ℕ) → from ≤ j → j < from + 8 → value_at map.now (position.now.place + 8 * j) ≡ 0 }
 {

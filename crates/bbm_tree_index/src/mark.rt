@@ -5,7 +5,7 @@ ghost use Rattle.indexmap.specs.IndexMap.{get};
 ghost use Rattle.bbm_tree_index.specs.Survey.{joined};
 
 use crate::role::Role;
-use bbm_regimes::{NoMemory, Page};
+use bbm_regimes::{NoMemory, PAGE_BYTES, Page};
 use indexmap::IndexMap;
 
 /// How a page is reached: the role that it has by the first path that was found, and whether there are others.
@@ -20,7 +20,7 @@ pub struct Mark {
 /// Notes one more path to the page.
 pub fn add(table: &mut IndexMap<u64, Mark>, page: Page, mark: &Mark) -> Result<(), NoMemory>
     ensures below { page < 2 ^ 48 }
-    ensures aligned { page % 4096 ≡ 0 }
+    ensures aligned { page % PAGE_BYTES ≡ 0 }
     ensures marks { OnOk result ((q : ℕ) → get nat_eq table.new q
         ≡ (if q == page then Some (joined (get nat_eq table.old page) mark.now) else get nat_eq table.old q)) }
 {

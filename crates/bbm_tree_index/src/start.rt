@@ -11,7 +11,7 @@ ghost use Rattle.std.specs.Prelude.{[], ◌∷◌};
 use crate::mark::{Mark, add};
 use crate::role::Role;
 use crate::spot::Spot;
-use bbm_regimes::{Kind, NoMemory, Page, Place};
+use bbm_regimes::{Kind, NoMemory, PAGE_BYTES, Page, Place};
 use indexmap::IndexMap;
 use std::alloc::Global;
 
@@ -40,14 +40,6 @@ pub fn start_below(
     Ok(table)
 }
 
-/// The page of a root with this number.
-fn part_page(first: Page, part: u8) -> Page
-    requires { first + 4096 * part < 2 ^ 48 }
-    ensures { result ≡ first + 4096 * part }
-{
-    Page::new(first.get() + 4096 * part as u64).unwrap()
-}
-
 /// The table of the pages of a root, so many from the first one on.
 pub fn start_root(
     alloc: Global,
@@ -55,13 +47,13 @@ pub fn start_root(
     first: Page,
     count: u8,
 ) -> Result<IndexMap<u64, Mark>, NoMemory>
-    requires { first + 4096 * count ≤ 2 ^ 48 }
+    requires { first + PAGE_BYTES * count ≤ 2 ^ 48 }
     ensures { IfOk result (λ table. (q : ℕ) → get nat_eq table q ≡ root_marks kind first count q) }
 {
     let mut table = IndexMap::new(alloc);
     for part in 0..count {
         let role = Role::RootPage { kind, first, part };
-        let page = part_page(first, part);
+        let page = first.behind(part);
         add(&mut table, page, &Mark { role, many: false })?;
     }
     Ok(table)

@@ -21,7 +21,7 @@ use crate::table::Roles;
 use bbm_descriptor::{Desc, read};
 use bbm_events::Header;
 use bbm_place_map::{PlaceMap, Position};
-use bbm_regimes::{Kind, Level, NoMemory, PLACES, Page, Place};
+use bbm_regimes::{Kind, Level, NoMemory, PAGE_BYTES, PLACES, Page, Place};
 use indexmap::IndexMap;
 use std::alloc::Global;
 
@@ -87,7 +87,7 @@ fn expand_eight(
 ) -> Result<(), NoMemory>
     requires fits { Fits spot.now }
     requires position { IsPosition map.now position.now }
-    requires first { position.now.place % 4096 ≡ 0 }
+    requires first { position.now.place % PAGE_BYTES ≡ 0 }
     requires within { from + 8 ≤ PLACES }
     ensures well { OnOk result (StaysWell below.old below.new) }
     ensures level { OnOk result (Expands (value_at map.now) spot.now many position.now.place
