@@ -1,7 +1,7 @@
 //! Leaves that places of a page hold.
 
 ghost use Rattle.std.specs.Prelude.{◌≡◌, ◌+◌, ◌*◌, ◌%◌, ◌<◌, ◌↔◌, true, false, is_some};
-ghost use Rattle.bbm_place_map.specs.Map.{IsPosition, marks_at};
+ghost use Rattle.bbm_place_map.specs.Map.{IsPosition, is_tracked, marks_at};
 ghost use Rattle.bbm_regimes.specs.declared.regime.Kind.{Kind};
 ghost use Rattle.bbm_rules.specs.Mapped.{maps};
 ghost use Rattle.bbm_tree_index.specs.HeldCores.{core_at};
@@ -10,7 +10,7 @@ ghost use Rattle.bbm_unmapped.specs.Targets.{HeldIn};
 
 use crate::outputs::{is_stage2, maps_page};
 use bbm_place_map::{PlaceMap, Position};
-use bbm_regimes::{Level, PLACES, Page, Place};
+use bbm_regimes::{Level, PAGE_BYTES, PLACES, Page, Place};
 use bbm_tree_index::Standing;
 
 /// Whether a value can't be that of a leaf that maps the page, since bits [47:12] differ that a leaf of this level
@@ -33,7 +33,7 @@ fn is_apart(level: Level, value: u64, page: Page) -> bool
 #[inline(always)]
 fn is_broken(map: &PlaceMap, first: &Position, number: u64) -> bool
     requires position { IsPosition map.now first.now }
-    requires first { first.now.place % 4096 ≡ 0 }
+    requires first { first.now.place % PAGE_BYTES ≡ 0 }
     requires within { number < PLACES }
     ensures { result ≡ is_some (marks_at map.now (first.now.place + 8 * number)) }
 {
@@ -50,7 +50,7 @@ fn is_broken(map: &PlaceMap, first: &Position, number: u64) -> bool
 #[inline(always)]
 fn holds_at(map: &PlaceMap, first: &Position, number: u64, read: &Standing, page: Page) -> bool
     requires position { IsPosition map.now first.now }
-    requires first { first.now.place % 4096 ≡ 0 }
+    requires first { first.now.place % PAGE_BYTES ≡ 0 }
     requires within { number < PLACES }
     ensures { result ≡ core_maps read.now.kind read.now.level
         (core_at map.now read.now.kind read.now.level (first.now.place + 8 * number)) page }
@@ -62,11 +62,12 @@ fn holds_at(map: &PlaceMap, first: &Position, number: u64, read: &Standing, page
     maps_page(read.kind, read.level, &core, page)
 }
 
-/// Whether a place of the page, which is read like this, holds a leaf that maps another page.
+/// Whether a place of the page, which is tracked and read like this, holds a leaf that maps another page.
 pub fn holds_over(map: &PlaceMap, table: Page, read: &Standing, page: Page) -> bool
+    requires { is_tracked map.now table ≡ true }
     ensures { (result ≡ true) ↔ HeldIn map.now read.now table page }
 {
-    if !is_stage2(read.kind) || map.is_blank(table) {
+    if !is_stage2(read.kind) {
         return false;
     }
     let position = map.first_position(table);

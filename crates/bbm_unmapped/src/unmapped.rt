@@ -165,6 +165,7 @@ impl Unmapped {
     #[inline(always)]
     fn is_held_under(&self, index: &TreeIndex, map: &PlaceMap, number: usize, page: Page) -> bool
         requires within { number < length (pages_in self.now) }
+        requires shares { SharesNumbers index.now map.now }
         requires pages { SharesPages self.now index.now }
         ensures { (result ≡ true) ↔ HeldUnder self.now index.now map.now page number }
     {
@@ -181,7 +182,8 @@ impl Unmapped {
 
     /// Whether a place of a tree holds a leaf that maps the page.
     fn is_held_over(&self, index: &TreeIndex, map: &PlaceMap, page: Page) -> bool
-        requires { SharesPages self.now index.now }
+        requires shares { SharesNumbers index.now map.now }
+        requires pages { SharesPages self.now index.now }
         ensures { (result ≡ true) ↔ IsHeldOver self.now index.now map.now page }
     {
         if !self.leaves.has(page) {

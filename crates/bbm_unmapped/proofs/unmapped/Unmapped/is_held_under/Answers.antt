@@ -1,9 +1,15 @@
-use Rattle.bbm_unmapped.proofs.Common.{in_outputs}
+use Rattle.bbm_unmapped.proofs.Common.{in_outputs, pages_of}
+use Rattle.bbm_page_map.proofs.Numbering.{some_number}
 use Rattle.bbm_unmapped.specs.Unmapped.{may_map, pages_in}
-use Rattle.bbm_rules.proofs.Common.{◌∙◌, ap, false, option_map_or, sym}
+use Rattle.bbm_rules.proofs.Common.{◌∙◌, List, ap, false, option_map_or, slice_get, sym, ℕ}
 use Rattle.bbm_tree_index.specs.Index as tree
 use Rattle.bbm_unmapped.proofs.HeldLeaves.{from_under, stood, to_under}
 use Rattle.bbm_unmapped.proofs.unmapped.Unmapped.is_held_under.Goals as goal
+
+pub holds_over-requires : goal.holds_over-requires
+unfolding pages_in
+holds_over-requires c = some_number (pages_of c.args.map.now) c.at-table.result.0 c.args.number
+    (ap (λ (ps : List ℕ). slice_get ps c.args.number) (c.requires.shares ∙ sym c.requires.pages) ∙ c.at-table.ensures.at)
 
 pub returns-in-Some : goal.returns-in-Some
 unfolding pages_in may_map
