@@ -91,9 +91,9 @@ impl Outputs {
     /// The one page among them, where they are those of a leaf of level 3.
     #[inline(always)]
     pub fn only_page(&self) -> Option<Page>
-        ensures is_one { self.now.first < 2 ^ 48 → self.now.first % 4096 ≡ 0 → self.now.behind ≡ self.now.first + 4096
-            → result ≡ Some self.now.first }
-        ensures only { IfSome result (λ only. (page : ℕ) → page % 4096 ≡ 0
+        ensures is_one { self.now.first < 2 ^ 48 → self.now.first % PAGE_BYTES ≡ 0
+            → self.now.behind ≡ self.now.first + PAGE_BYTES → result ≡ Some self.now.first }
+        ensures only { IfSome result (λ only. (page : ℕ) → page % PAGE_BYTES ≡ 0
             → in_outputs self.now page ≡ (page == only)) }
     {
         if self.behind <= self.first || self.behind - self.first > PAGE_BYTES {
