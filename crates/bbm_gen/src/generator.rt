@@ -7,7 +7,7 @@ ghost use Rattle.bbm_gen.specs.Generated as log;
 
 use bbm_barriers::{Domain, Dsb, Types};
 use bbm_events::{Event, Header, NO_WORDS};
-use bbm_regimes::{HypWorld, Kind, Level, Page, Pe, Place, Reg, World};
+use bbm_regimes::{HypWorld, Kind, Level, PLACES, Page, Pe, Place, Reg, World};
 use bbm_tlbi_scope::TlbiOp;
 
 /// The first page of the EL2 root.
@@ -156,18 +156,18 @@ fn s2_step(place: Place, block: u64, page: u64, k: u32) -> Event
     }
 }
 
-/// Which of the 512 descriptors of a root the round writes.
+/// Which of the descriptors of a root's page the round writes.
 fn slot(n: u64, round: u32) -> u64
     ensures value { result ≡ log.slot n round }
-    ensures below { result < 512 }
+    ensures below { result < PLACES }
 {
-    (n % 512 + round as u64) % 512
+    (n % PLACES + round as u64) % PLACES
 }
 
 /// The place of a descriptor, by its number in the page of a root.
 fn place_in(root: Page, slot: u64) -> Place
     requires root_low { root < 0x80000000 }
-    requires slot_below { slot < 512 }
+    requires slot_below { slot < PLACES }
     ensures { result ≡ log.place_in root slot }
 {
     Place::new(root.get() + 8 * slot).unwrap()
