@@ -9,12 +9,9 @@ use crate::nodes::{
     BASE, DEPTH, LastNode, NODE_SLOTS, find, node_for, node_of, put_number, reserve_slots, step,
 };
 use crate::number::PageNumber;
-use bbm_regimes::{NoMemory, Page};
+use bbm_regimes::{NoMemory, PAGE_BYTES, Page};
 use std::alloc::Global;
 use std::marker::Model;
-
-/// The number of bytes of a page.
-const PAGE_BYTES: u64 = 4096;
 
 /// The number of pages that may have numbers.
 const MAX_PAGES: usize = 1 << 22;
