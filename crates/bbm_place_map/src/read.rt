@@ -6,10 +6,11 @@ ghost use Rattle.bbm_place_map.specs.States.{state_from};
 
 use bbm_descriptor::Core;
 use bbm_entry_state::EntryState;
+use bbm_regimes::PLACES;
 
 /// The number of values of a page. Pages have theirs one after another, in the order in which they were tracked. A page
 /// has as many cells from its first broken place on.
-pub const VALUES: usize = 512;
+pub const VALUES: usize = PLACES as usize;
 
 /// The state of a place that isn't broken: live with this core, or clean without one.
 pub fn unbroken(live: Option<Core>) -> EntryState

@@ -18,7 +18,7 @@ use crate::read;
 use bbm_descriptor::{Core, core};
 use bbm_entry_state::{EntryState, Pends};
 use bbm_page_map::PageNumber;
-use bbm_regimes::{Kind, Level, Page, Pe, Place};
+use bbm_regimes::{Kind, Level, PAGE_BYTES, PLACES, Page, Pe, Place};
 
 impl PlaceMap {
     /// The state of a place, where a place that isn't broken is live with this core, or clean without one. It is for
@@ -152,7 +152,7 @@ impl PlaceMap {
         requires { is_tracked self.now page ≡ true }
         ensures place { result.place ≡ page }
         ensures position { IsPosition self.now result }
-        ensures first { result.place % 4096 ≡ 0 }
+        ensures first { result.place % PAGE_BYTES ≡ 0 }
     {
         let place = Place::new(page.get()).unwrap();
         let page = self.pages.number(page).unwrap();
@@ -162,8 +162,8 @@ impl PlaceMap {
     /// The value of the place with this number, 0 to 511, of the page whose first place the position has.
     pub fn value_from(&self, position: &Position, number: u64) -> u64
         requires position { IsPosition self.now position.now }
-        requires first { position.now.place % 4096 ≡ 0 }
-        requires within { number < 512 }
+        requires first { position.now.place % PAGE_BYTES ≡ 0 }
+        requires within { number < PLACES }
         ensures { result ≡ value_at self.now (position.now.place + 8 * number) }
     {
         let j = self.value_number(position);
@@ -181,8 +181,8 @@ impl PlaceMap {
         level: Level,
     ) -> Option<Core>
         requires position { IsPosition self.now position.now }
-        requires first { position.now.place % 4096 ≡ 0 }
-        requires within { number < 512 }
+        requires first { position.now.place % PAGE_BYTES ≡ 0 }
+        requires within { number < PLACES }
         ensures { result ≡ core_in (state_at self.now
             (core_of kind level (value_at self.now (position.now.place + 8 * number)))
             (position.now.place + 8 * number)) }
