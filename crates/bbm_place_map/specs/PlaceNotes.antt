@@ -30,11 +30,11 @@ KeepsOthers issuer e f = (f.marks ≡ e.marks) × ((q : ℕ) → q ≢ issuer �
 abbrev pub Keeps : Entry → Entry → Type 0
 Keeps e f = (f.marks ≡ e.marks) × (f.pends.items ≡ e.pends.items)
 
--- and there is room for the lane, where the place is covered and the number of the entry isn't below this one
-abbrev pub Readies : ℕ → ℕ → List Cover → ℕ → Entry → Entry → Type 0
-Readies start lane covers m e f =
+-- and there is room for the lane, where the place is covered
+abbrev pub Readies : ℕ → List Cover → ℕ → Entry → Entry → Type 0
+Readies lane covers m e f =
     (f.marks ≡ e.marks) × (f.pends.items ≡ e.pends.items)
-    × ((c : Cover) → start ≤ m → slice_get covers m ≡ Some c → is_cover c ≡ true → HasRoom f.pends lane)
+    × ((c : Cover) → slice_get covers m ≡ Some c → is_cover c ≡ true → HasRoom f.pends lane)
 
 -- the TLBI, which covers the place so far, is noted there already: to note it changes nothing
 abbrev pub IsNoted : Cover → Issuing → Entry → Type 0

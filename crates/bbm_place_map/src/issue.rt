@@ -141,35 +141,18 @@ pub fn note_entry(
     }
 }
 
-/// A number below which the TLBI is noted already at each place that is covered.
-pub fn first_open(entries: &Entries, covers: &[Answer], tlbi: &Issuing) -> usize
-    requires { length covers.now ≡ length entries.now.list.items }
-    ensures { (m : ℕ) (e : TheEntry) (c : TheCover) → m < result → slice_get entries.now.list.items m ≡ Some e
-        → slice_get covers.now m ≡ Some c → IsNoted c tlbi.now e }
-{
-    for k in 0..entries.list.len() {
-        let cover = covers[k].get();
-        if is_cover(cover) && !is_noted_at(entries, k, tlbi, cover) {
-            return k;
-        }
-    }
-    entries.list.len()
-}
-
-/// Makes room for the lane at each place that is covered, from a number on. `NoMemory` where there is none.
+/// Makes room for the lane at each place that is covered. `NoMemory` where there is none.
 pub fn make_room(
     broken: &mut BrokenPlaces,
     covers: &[Answer],
-    start: usize,
     lane: Lane,
 ) -> Result<(), NoMemory>
     requires { length covers.now ≡ length broken.old.entries.list.items }
     ensures each { EachAdvances (λ _. Keeps) broken.old broken.new }
-    ensures ready { OnOk result ((m : ℕ) → Advances (Readies start lane covers.now m) (slice_get broken.old.entries.list.items m)
+    ensures ready { OnOk result ((m : ℕ) → Advances (Readies lane covers.now m) (slice_get broken.old.entries.list.items m)
         (slice_get broken.new.entries.list.items m)) }
-    ensures before { (m : ℕ) → m < start → slice_get broken.new.entries.list.items m ≡ slice_get broken.old.entries.list.items m }
 {
-    for k in start..broken.len() {
+    for k in 0..broken.len() {
         if is_cover(covers[k].get()) {
             broken.make_room(k, lane)?;
         }
@@ -177,18 +160,16 @@ pub fn make_room(
     Ok(())
 }
 
-/// Notes the TLBI at each place that is covered, where it is noted below a number, and from there on there is room for
-/// its lane. The cells of those at which something waits now are listed for the issuer.
-pub fn note(broken: &mut BrokenPlaces, covers: &[Answer], start: usize, tlbi: &Issuing)
+/// Notes the TLBI at each place that is covered, where there is room for its lane. The cells of those at which something
+/// waits now are listed for the issuer.
+pub fn note(broken: &mut BrokenPlaces, covers: &[Answer], tlbi: &Issuing)
     requires len { length covers.now ≡ length broken.old.entries.list.items }
-    requires noted { (m : ℕ) (e : TheEntry) (c : TheCover) → m < start → slice_get broken.old.entries.list.items m ≡ Some e
-        → slice_get covers.now m ≡ Some c → IsNoted c tlbi.now e }
-    requires ready { (m : ℕ) (e : TheEntry) → start ≤ m → slice_get broken.old.entries.list.items m ≡ Some e → (c : TheCover)
+    requires ready { (m : ℕ) (e : TheEntry) → slice_get broken.old.entries.list.items m ≡ Some e → (c : TheCover)
         → slice_get covers.now m ≡ Some c → spec_is_cover c ≡ true
         → HasRoom e.pends (lane_of tlbi.now.issuer tlbi.now.broadcast) }
     ensures { EachAdvances (NotesAt covers.now tlbi.now) broken.old broken.new }
 {
-    for k in start..broken.len() {
+    for k in 0..broken.len() {
         let cover = covers[k].get();
         broken.note(k, tlbi, cover);
     }

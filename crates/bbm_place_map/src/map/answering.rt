@@ -83,9 +83,8 @@ impl PlaceMap {
             broadcast,
         };
         let lane = Lane::new(issuer, broadcast);
-        let start = issue::first_open(&self.broken.entries, covers, &tlbi);
-        issue::make_room(&mut self.broken, covers, start, lane)?;
-        issue::note(&mut self.broken, covers, start, &tlbi);
+        issue::make_room(&mut self.broken, covers, lane)?;
+        issue::note(&mut self.broken, covers, &tlbi);
         Ok(())
     }
 

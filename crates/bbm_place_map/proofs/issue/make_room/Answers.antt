@@ -12,14 +12,7 @@ use Rattle.bbm_place_map.proofs.issue.make_room.Invariants.{Roomed}
 use Rattle.bbm_place_map.proofs.issue.make_room.Goals as goal
 
 pub loop-k-init : goal.loop-k-init
-loop-k-init c = record {
-  done = λ m below.
-      self_advances (Readies c.args.start c.args.lane c.args.covers.now m) (slice_get c.args.broken.now.entries.list.items m)
-      (λ e is. (refl, refl, λ x begun. absurd (omega (arith, begun, below))));
-  rest = λ m above. refl;
-  before = λ m below. refl;
-  same = seats_all c.args.broken.now;
-}
+loop-k-init c = record { done = λ m below. absurd (omega (arith, below)); rest = λ m above. refl; same = seats_all c.args.broken.now }
 
 pub loop-k-preserved : goal.loop-k-preserved
 loop-k-preserved c =
@@ -30,17 +23,16 @@ loop-k-preserved c =
     let mid = c.loop-k.broken.entries.list.items in
     let within : k < length mid = omega (arith, inv.same.len) in
     let e = entry_there mid k within in
-    let R = Readies c.args.start c.args.lane covers in
-    let P : BrokenPlaces → Type 0 = λ b. Roomed c.args.broken.now b covers c.args.start c.args.lane (k + 1) in
+    let R = Readies c.args.lane covers in
+    let P : BrokenPlaces → Type 0 = λ b. Roomed c.args.broken.now b covers c.args.lane (k + 1) in
     elim c.if-is_cover.branch [
       | then-is_cover+in_ok-make_room w ↦
           let made = w.in_ok-make_room.ensures in
           let f = made.entry e.0 e.1 in
           let new = w.make_room.new.self.entries.list.items in
           subst P (sym w.broken-is) (record {
-            done = done_more R start mid new k e.0 f.0 inv.done inv.rest e.1 f.1 (f.2.0.0, f.2.0.1, λ x _ _ _. f.2.1) f.3;
-            rest = rest_more R start mid new k e.0 f.0 inv.done inv.rest e.1 f.1 (f.2.0.0, f.2.0.1, λ x _ _ _. f.2.1) f.3;
-            before = λ m below. put_away _ _ f.3 m (λ same. absurd (omega arith)) ∙ inv.before m below;
+            done = done_more R start mid new k e.0 f.0 inv.done inv.rest e.1 f.1 (f.2.0.0, f.2.0.1, λ x _ _. f.2.1) f.3;
+            rest = rest_more R start mid new k e.0 f.0 inv.done inv.rest e.1 f.1 (f.2.0.0, f.2.0.1, λ x _ _. f.2.1) f.3;
             same = seats_more inv.same made.same;
           })
       | else-is_cover w ↦
@@ -48,14 +40,13 @@ loop-k-preserved c =
           false≢true (sym (sym c.is_cover.ensures ∙ w.if-is_cover.false) ∙ ap is_cover (same_Some c.get.result x
           (sym (cover_read covers k c.index-covers-k.result c.get.result (omega arith) c.index-covers-k.is c.get.ensures) ∙ at)) ∙ is) in
           subst P (sym w.broken-is) (record {
-            done = done_more R start mid mid k e.0 e.0 inv.done inv.rest e.1 refl (refl, refl, λ x _ at is. absurd (off x at is)) (gets_same mid k e.0 e.1);
+            done = done_more R start mid mid k e.0 e.0 inv.done inv.rest e.1 refl (refl, refl, λ x at is. absurd (off x at is)) (gets_same mid k e.0 e.1);
             rest = λ m above. inv.rest m (omega arith);
-            before = inv.before;
             same = inv.same;
           })
     ]
 
 pub returns-clause-ready : goal.returns-clause-ready
 returns-clause-ready c =
-    all_done (Readies c.args.start c.args.lane c.args.covers.now) c.args.broken.now.entries.list.items c.loop-k.broken.entries.list.items c.loop-k.k
+    all_done (Readies c.args.lane c.args.covers.now) c.args.broken.now.entries.list.items c.loop-k.broken.entries.list.items c.loop-k.k
     (omega arith) c.loop-k.invariant.done c.loop-k.invariant.rest

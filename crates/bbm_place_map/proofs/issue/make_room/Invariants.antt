@@ -3,13 +3,12 @@ use Rattle.bbm_place_map.specs.PlaceNotes.{Readies}
 use Rattle.bbm_place_map.proofs.issue.make_room.Given as goal
 
 -- there is room at the entries below a number
-abbrev pub Roomed : BrokenPlaces → BrokenPlaces → List Cover → ℕ → ℕ → ℕ → Type 0
-Roomed old new covers start lane k = record {
-  done : (m : ℕ) → m < k → Advances (Readies start lane covers m) (slice_get old.entries.list.items m) (slice_get new.entries.list.items m);
+abbrev pub Roomed : BrokenPlaces → BrokenPlaces → List Cover → ℕ → ℕ → Type 0
+Roomed old new covers lane k = record {
+  done : (m : ℕ) → m < k → Advances (Readies lane covers m) (slice_get old.entries.list.items m) (slice_get new.entries.list.items m);
   rest : (m : ℕ) → k ≤ m → slice_get new.entries.list.items m ≡ slice_get old.entries.list.items m;
-  before : (m : ℕ) → m < start → slice_get new.entries.list.items m ≡ slice_get old.entries.list.items m;
   same : SameSeats old new;
 }
 
 abbrev pub invariant-loop-k : goal.invariant-loop-k
-invariant-loop-k l = Roomed l.initial.broken l.broken l.covers l.start l.lane l.k
+invariant-loop-k l = Roomed l.initial.broken l.broken l.covers l.lane l.k

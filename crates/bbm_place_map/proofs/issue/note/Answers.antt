@@ -11,18 +11,12 @@ note-requires-clause-within c = omega (arith, c.loop-k.invariant.same.len)
 
 pub note-requires-clause-ready : goal.note-requires-clause-ready
 note-requires-clause-ready c = λ e is cover.
-    c.requires.ready c.loop-k.k e (omega arith)
+    c.requires.ready c.loop-k.k e
     (sym (c.loop-k.invariant.rest c.loop-k.k (omega arith)) ∙ is) c.get-cover.result
     (cover_read c.args.covers.now c.loop-k.k c.index-covers-k.result c.get-cover.result (omega arith) c.index-covers-k.is c.get-cover.ensures) cover
 
 pub loop-k-init : goal.loop-k-init
-loop-k-init c = record {
-  done = λ m below.
-      self_advances (NotesAt c.args.covers.now c.args.tlbi.now m) (slice_get c.args.broken.now.entries.list.items m)
-      (λ e is. (refl, λ q other. refl, λ x at. (refl, λ q other. refl, c.requires.noted m e x below is at, λ none. refl)));
-  rest = λ m above. refl;
-  same = seats_all c.args.broken.now;
-}
+loop-k-init c = record { done = λ m below. absurd (omega (arith, below)); rest = λ m above. refl; same = seats_all c.args.broken.now }
 
 pub loop-k-preserved : goal.loop-k-preserved
 loop-k-preserved c =

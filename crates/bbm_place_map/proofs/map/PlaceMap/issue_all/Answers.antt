@@ -30,10 +30,6 @@ returns-in_err-make_room-clause-only c = room_only c.args.self.now _ refl refl c
 pub returns-in_err-make_room-clause-kept : goal.returns-in_err-make_room-clause-kept
 returns-in_err-make_room-clause-kept c = on_err c.from_residual.result (room_same c.args.self.now _ refl refl c.make_room.ensures.each)
 
-pub note-requires-clause-noted : goal.note-requires-clause-noted
-note-requires-clause-noted c = λ m e x below is at.
-    c.first_open-start.ensures m e x below (sym (c.make_room.ensures.before m below) ∙ is) at
-
 pub returns-clause-noted : goal.returns-clause-noted
 unfolding marks_at pends_at restless_in restless_place
 returns-clause-noted c =
