@@ -6,7 +6,7 @@ use Rattle.bbm_place_map.proofs.Common.{eqb-true, ◌∙◌}
 use Rattle.bbm_place_map.proofs.Common.{vec_len, if◌then◌else◌, slice_get, cond-false, cond-true, Vec, Global, bases}
 use Rattle.bbm_place_map.proofs.Common.{in_page, marks_of, page_of}
 use Rattle.bbm_place_map.proofs.Common.{pends_of, IsIdle, Placed, at_index, index_of, place_entry, entry_at}
-use Rattle.bbm_place_map.proofs.Common.{pages_in}
+use Rattle.bbm_place_map.proofs.Common.{pages_in, entries_in}
 use Rattle.bbm_place_map.proofs.Common.{AreSeated, BrokenPlaces, Breaks, Clears, Entry, PlaceMap, Option, Frees, Marks}
 use Rattle.bbm_place_map.proofs.Common.{WasSeated}
 use Rattle.bbm_place_map.proofs.Common.{split_by, if_then, inl, inr}
@@ -21,21 +21,21 @@ abbrev pub Fits : PlaceMap → Vec ℕ Global → BrokenPlaces → Type 0
 Fits map values broken = record {
   counted : 512 * length map.pages ≡ vec_len values;
   paged : pages_in broken ≡ length map.pages;
-  placed : Placed (bases map.pages) broken.entries.list.items;
+  placed : Placed (bases map.pages) (entries_in broken);
 }
 
 module _ (map : PlaceMap) (values : Vec ℕ Global) (new : BrokenPlaces) (many : vec_len values ≡ vec_len map.values)
     (pages : pages_in new ≡ pages_in map.broken) where
-  fits : Placed (bases map.pages) new.entries.list.items → Fits map values new
+  fits : Placed (bases map.pages) (entries_in new) → Fits map values new
   fits placed = record { counted = map.counted ∙ sym many; paged = pages ∙ map.paged; placed = placed }
 
-  pub fits_seated : AreSeated map.broken.entries.list.items new.entries.list.items → Fits map values new
+  pub fits_seated : AreSeated (entries_in map.broken) (entries_in new) → Fits map values new
   fits_seated seats =
-      fits (seats_by (λ p. index_of (bases map.pages) p.0 ≡ Some p.1) map.broken.entries.list.items new.entries.list.items seats map.placed)
+      fits (seats_by (λ p. index_of (bases map.pages) p.0 ≡ Some p.1) (entries_in map.broken) (entries_in new) seats map.placed)
 
   pub fits_put : (j place : ℕ) → index_of (bases map.pages) place ≡ Some j
-      → ((k : ℕ) (e : Entry) → slice_get new.entries.list.items k ≡ Some e
-      → WasSeated map.broken.entries.list.items e ⊎ ((e.place ≡ place) × (e.index ≡ j))) → Fits map values new
+      → ((k : ℕ) (e : Entry) → slice_get (entries_in new) k ≡ Some e
+      → WasSeated (entries_in map.broken) e ⊎ ((e.place ≡ place) × (e.index ≡ j))) → Fits map values new
   fits_put j place at seats =
       let P : ℕ × ℕ × ℕ → Type 0 = λ p. index_of (bases map.pages) p.0 ≡ Some p.1 in
       fits (λ k e h.

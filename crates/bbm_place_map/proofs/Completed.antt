@@ -1,6 +1,6 @@
 -- What a DSB leaves of each place that it visits.
 use Rattle.bbm_place_map.proofs.Common.{◌≡◌, ℕ, Bool, true, false, [], Option, Some, None, refl, ap, sym, subst, ◌∙◌}
-use Rattle.bbm_place_map.proofs.Common.{false≢true, bases}
+use Rattle.bbm_place_map.proofs.Common.{false≢true, bases, entries_in}
 use Rattle.bbm_place_map.proofs.Common.{Does, HoldsFor, Rests, loses_table, entry_of_cell, marks_of, at_index, index_of}
 use Rattle.bbm_place_map.proofs.Common.{cell_by, entry_at}
 use Rattle.bbm_place_map.proofs.Common.{BrokenPlaces, Entries, Entry, Barrier, Effect, PlaceMap, Complete, Publish}
@@ -21,14 +21,14 @@ entry_lost None new h = absurd (false≢true h)
 entry_lost (Some e) new h = (e, refl)
 
 -- where no place is broken no place has an entry
-pub empty_at : (broken : BrokenPlaces) → broken.entries.list.items ≡ [] → (j : ℕ) → entry_at broken j ≡ None
+pub empty_at : (broken : BrokenPlaces) → (entries_in broken) ≡ [] → (j : ℕ) → entry_at broken j ≡ None
 empty_at broken none j = by (cell_by broken.parts.items j)
   where
     by : (o : Option ℕ) → at_index None (entry_of_cell broken.entries) o ≡ None
     by None = refl
-    by (Some c) = none_broken broken.entries.list.items none (slot_in broken.entries.cells.items c)
+    by (Some c) = none_broken (entries_in broken) none (slot_in broken.entries.cells.items c)
 
-pub empty_place : (broken : BrokenPlaces) → broken.entries.list.items ≡ [] → (o : Option ℕ) → at_index None (entry_at broken) o ≡ None
+pub empty_place : (broken : BrokenPlaces) → (entries_in broken) ≡ [] → (o : Option ℕ) → at_index None (entry_at broken) o ≡ None
 empty_place broken none None = refl
 empty_place broken none (Some j) = empty_at broken none j
 

@@ -1,13 +1,13 @@
 -- The broken places, by the numbers of their values.
 use Rattle.bbm_place_map.proofs.Common.{◌≡◌, ◌≢◌, ℕ, ◌+◌, ◌/◌, ◌%◌, ◌<◌, ◌≤◌, nat_eq, List, Option, Some, None}
-use Rattle.bbm_place_map.proofs.Common.{refl, ap, sym, subst}
+use Rattle.bbm_place_map.proofs.Common.{length, refl, ap, sym, subst}
 use Rattle.bbm_place_map.proofs.Common.{◌∙◌, arith, inl, inr, if◌then◌else◌, slice_get, vec_len, vec_capacity, cases_eq}
 use Rattle.bbm_place_map.proofs.Common.{none-some, option_map, Vec, Global, cell_by, slot_in, entry_of, entry_in}
 use Rattle.bbm_place_map.proofs.Common.{position, Entry}
 use Rattle.bbm_place_map.proofs.Common.{AreSeated, BrokenPlaces, Entries, IsSound, Numbered, StillSound, at_index}
 use Rattle.bbm_place_map.proofs.Common.{entry_at, entry_of_cell, number_at}
 use Rattle.bbm_place_map.proofs.Common.{put_here, put_away, either, ◌⊎◌, WasSeated, KeepsRoom}
-use Rattle.bbm_place_map.proofs.Common.{SameSize}
+use Rattle.bbm_place_map.proofs.Common.{SameSeats, SameSize, entries_in}
 use Rattle.bbm_place_map.proofs.Edits.{slot_past}
 use Rattle.bbm_place_map.proofs.Growing.{numbered_more}
 use Rattle.bbm_place_map.proofs.Positions.{found, free_cell, positions_changed, seats_by, still_seated}
@@ -16,12 +16,14 @@ use Rattle.bbm_place_map.proofs.Linking.{marks_put, pends_put}
 use Rattle.bbm_place_map.proofs.Seats.{by_index, seat_of, seated_at, the_cell}
 use Rattle.bbm_place_map.proofs.Common.{Marks, MarksCell, SameEntries, marks_of, pends_in, pends_of}
 
--- the number of a place is that of its entry
-pub number_entry : (broken : BrokenPlaces) (j k : ℕ) → number_at broken j ≡ Some k → entry_at broken j ≡ slice_get broken.entries.list.items k
-number_entry broken j k =
-    by_index (λ o. at_index None (slot_in broken.entries.cells.items) o ≡ Some k
-    → at_index None (entry_of_cell broken.entries) o ≡ slice_get broken.entries.list.items k)
-    (cell_by broken.parts.items j) (λ h. absurd (none-some k h)) (λ c at h. ap (entry_of broken.entries.list.items) h)
+-- the entry of a place is the one with its number
+pub entry_by_number : (broken : BrokenPlaces) (j : ℕ) → entry_at broken j ≡ entry_of (entries_in broken) (number_at broken j)
+entry_by_number broken j =
+    by_index (λ o. at_index None (entry_of_cell broken.entries) o ≡ entry_of (entries_in broken) (at_index None (slot_in broken.entries.cells.items) o))
+    (cell_by broken.parts.items j) refl (λ c at. refl)
+
+number_entry : (broken : BrokenPlaces) (j k : ℕ) → number_at broken j ≡ Some k → entry_at broken j ≡ slice_get (entries_in broken) k
+number_entry broken j k h = entry_by_number broken j ∙ ap (entry_of (entries_in broken)) h
 
 entry_there : (broken : BrokenPlaces) (j k : ℕ) → number_at broken j ≡ Some k → (e : Entry) × (slice_get broken.entries.list.items k ≡ Some e)
 entry_there broken j k =
@@ -59,9 +61,7 @@ number_seat broken j k h =
     (e.0, e.1, s.3)
 
 pub none_entry : (broken : BrokenPlaces) (j : ℕ) → number_at broken j ≡ None → entry_at broken j ≡ None
-none_entry broken j =
-    by_index (λ o. at_index None (slot_in broken.entries.cells.items) o ≡ None → at_index None (entry_of_cell broken.entries) o ≡ None)
-    (cell_by broken.parts.items j) (λ h. refl) (λ c at h. ap (entry_of broken.entries.list.items) h)
+none_entry broken j h = entry_by_number broken j ∙ ap (entry_of (entries_in broken)) h
 
 -- the cells go on to be those of their numbers
 pub sound_still : (parts : List ℕ) (old new : Entries) → KeepsRoom old new
@@ -106,6 +106,17 @@ sound_marked parts old new j place cell at room seats sound =
       | inl was ↦ subst P (sym was.3) (sound.seated was.0 was.1 was.2)
       | inr now ↦ subst P (sym now) at
     ]) sound
+
+-- as many entries of the same cells
+pub seats_same : {old new : BrokenPlaces} → new.parts ≡ old.parts → new.entries.cells ≡ old.entries.cells
+    → length (entries_in new) ≡ length (entries_in old) → SameSeats old new
+seats_same {old} {new} parts cells len = record {
+  pages = ap vec_len parts;
+  numbers = λ j.
+      ap (λ (v : Vec ℕ Global). at_index None (slot_in new.entries.cells.items) (cell_by v.items j)) parts
+      ∙ ap (λ (v : Vec ℕ Global). at_index None (slot_in v.items) (cell_by old.parts.items j)) cells;
+  len = len;
+}
 
 -- the parts tell the same
 pub parts_same : (parts parts' : List ℕ) → ((i : ℕ) → slot_in parts' i ≡ slot_in parts i) → (j : ℕ) → cell_by parts' j ≡ cell_by parts j
@@ -156,7 +167,7 @@ module _ (old mid : BrokenPlaces) (new : Entries) (j place cell : ℕ) (by : Mar
   pub broken_seats : (k : ℕ) (x : Entry) → slice_get new.list.items k ≡ Some x
       → WasSeated old.entries.list.items x ⊎ ((x.place ≡ place) × (x.index ≡ j))
   broken_seats k x h =
-      either (e.seats k x h) (subst (λ (v : Vec Entry Global). WasSeated v.items x) same.list)
+      either (e.seats k x h) (subst (λ (xs : List Entry). WasSeated xs x) same.list)
       (λ now. (ap (λ (p : ℕ × ℕ × ℕ). p.0) now, ap (λ (p : ℕ × ℕ × ℕ). p.1) now))
 
   pub broken_entry : (f : Entry) × (f.marks ≡ by) × ((q : ℕ) → pends_in f.pends.items q ≡ pends_of q (entry_at old j))

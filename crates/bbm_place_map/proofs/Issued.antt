@@ -1,20 +1,21 @@
 -- What the issue of a TLBI notes, of a place.
 use Rattle.bbm_place_map.proofs.Common.{◌≡◌, ℕ, true, false, ◌<◌, List, length, Option, Some, None, is_some, refl, ap}
-use Rattle.bbm_place_map.proofs.Common.{bases}
+use Rattle.bbm_place_map.proofs.Common.{bases, entries_in}
 use Rattle.bbm_place_map.proofs.Common.{sym, subst, ◌∙◌, arith, slice_get, get_or, option_map, slice_get_within}
 use Rattle.bbm_place_map.proofs.Common.{unwrap_or}
-use Rattle.bbm_place_map.proofs.Common.{slice_get-get_or, Cover, Noted, Broken, slot_in, entry_of, position}
+use Rattle.bbm_place_map.proofs.Common.{slice_get-get_or, Cover, Noted, Broken, entry_of, position}
 use Rattle.bbm_place_map.proofs.Common.{pends_in, pends_of, cover_in, is_found, FoundAs, NotesAmong}
 use Rattle.bbm_place_map.proofs.Common.{NotesAt}
-use Rattle.bbm_place_map.proofs.Common.{index_of, at_index, state_from, entry_at, entry_in, entry_of_cell, cell_by}
+use Rattle.bbm_place_map.proofs.Common.{index_of, at_index, state_from, entry_at, number_at}
 use Rattle.bbm_place_map.proofs.Common.{place_entry, Vec, Global}
 use Rattle.bbm_place_map.proofs.Common.{Entry, Pending, Found, Issuing, false≢true, marks_of, BrokenPlaces}
 use Rattle.bbm_place_map.proofs.Common.{EachAdvances, PlaceMap}
 use Rattle.bbm_place_map.proofs.Common.{Marks, none-some, same_Some}
-use Rattle.bbm_place_map.proofs.Common.{◌≢◌, value_in, vec_len, IsSame, Keeps}
+use Rattle.bbm_place_map.proofs.Common.{◌≢◌, value_in, IsSame, Keeps}
 use Rattle.bbm_place_map.specs.MapCalls.{KeepsPlaces, NotesOnly}
 use Rattle.std.proofs.lemmas.Bool.{eqb-false}
 use Rattle.bbm_place_map.proofs.Clearing.{Fits, fits_seated}
+use Rattle.bbm_place_map.proofs.Held.{entry_by_number, number_back}
 use Rattle.bbm_place_map.specs.Map.{pages_of, marks_at, pends_at, restless_in, restless_place, value_at}
 use Rattle.bbm_place_map.proofs.Advancing.{by_entries, column_kept, position_kept}
 use Rattle.bbm_place_map.proofs.Finding.{cover_is}
@@ -22,7 +23,6 @@ use Rattle.bbm_place_map.proofs.Common.{AreSeated}
 use Rattle.bbm_place_map.proofs.Positions.{seats_kept}
 use Rattle.bbm_place_map.proofs.Reaching.{at_each}
 use Rattle.bbm_place_map.proofs.Restless.{entry_here, entry_seat, entry_there, place_is, place_of}
-use Rattle.bbm_place_map.proofs.Seats.{the_cell}
 
 pub cover_read : (covers : List Cover) (i : ℕ) (x y : Cover) → i < length covers → x ≡ get_or covers i x → y ≡ x → slice_get covers i ≡ Some y
 cover_read covers i x y within is same = slice_get-get_or covers i x within ∙ ap (λ (c : Cover). Some c) (sym is ∙ sym same)
@@ -33,21 +33,19 @@ module _ (R : ℕ → Entry → Entry → Type 0) (map : PlaceMap) (new : Broken
   now a = at_index None (entry_at new) (index_of (bases map.pages) a)
 
   module _ (P : Option Entry → Option Entry → Type 0) (none : P None None)
-      (some : (m : ℕ) (e f : Entry) → slice_get map.broken.entries.list.items m ≡ Some e → position f ≡ position e → R m e f → P (Some e) (Some f)) where
-    by_number : (s : Option ℕ) → P (entry_of map.broken.entries.list.items s) (entry_of new.entries.list.items s)
+      (some : (m : ℕ) (e f : Entry) → slice_get (entries_in map.broken) m ≡ Some e → position f ≡ position e → R m e f → P (Some e) (Some f)) where
+    by_number : (s : Option ℕ) → P (entry_of (entries_in map.broken) s) (entry_of (entries_in new) s)
     by_number None = none
     by_number (Some m) =
-        by_entries (R m) (λ o p. slice_get map.broken.entries.list.items m ≡ o → P o p) (λ _. none) (λ e f seated h is. some m e f is seated h)
-        (slice_get map.broken.entries.list.items m) (slice_get new.entries.list.items m) (changed.each m) refl
+        by_entries (R m) (λ o p. slice_get (entries_in map.broken) m ≡ o → P o p) (λ _. none) (λ e f seated h is. some m e f is seated h)
+        (slice_get (entries_in map.broken) m) (slice_get (entries_in new) m) (changed.each m) refl
 
     by_index : (j : ℕ) → P (entry_at map.broken j) (entry_at new j)
     by_index j =
-        let Q : Vec ℕ Global → Type 0 = λ v. P (entry_at map.broken j) (at_index None (λ c. entry_in v.items new.entries.list.items c) (cell_by new.parts.items j)) in
-        let S : Vec ℕ Global → Type 0 = λ v. P (entry_at map.broken j)
-        (at_index None (λ c. entry_in map.broken.entries.cells.items new.entries.list.items c) (cell_by v.items j)) in
-        subst Q (sym changed.same.cells) (subst S (sym changed.same.parts)
-        (at_each P None (entry_of_cell map.broken.entries) (λ c. entry_in map.broken.entries.cells.items new.entries.list.items c) none
-        (λ c. by_number (slot_in map.broken.entries.cells.items c)) (cell_by map.broken.parts.items j)))
+        let now : entry_at new j ≡ entry_of (entries_in new) (number_at map.broken j)
+        = entry_by_number new j ∙ ap (entry_of (entries_in new)) (changed.same.numbers j) in
+        let Q : Option Entry → Type 0 = λ o. P o (entry_of (entries_in new) (number_at map.broken j)) in
+        subst (P (entry_at map.broken j)) (sym now) (subst Q (sym (entry_by_number map.broken j)) (by_number (number_at map.broken j)))
 
     by_place : (a : ℕ) → P (place_entry map a) (now a)
     by_place a = at_each P None (entry_at map.broken) (entry_at new) none by_index (index_of (bases map.pages) a)
@@ -60,21 +58,21 @@ module _ (R : ℕ → Entry → Entry → Type 0) (map : PlaceMap) (new : Broken
       → pends_of q (now a) ≡ pends_of q (place_entry map a)
   pends_stay q same = by_place (λ o p. pends_of q p ≡ pends_of q o) refl (λ m e f is seated h. same m e f h)
 
-  pub places_stay : (i : ℕ) → unwrap_or (option_map (λ (e : Entry). e.place) (slice_get new.entries.list.items i)) 0
-      ≡ unwrap_or (option_map (λ (e : Entry). e.place) (slice_get map.broken.entries.list.items i)) 0
+  pub places_stay : (i : ℕ) → unwrap_or (option_map (λ (e : Entry). e.place) (slice_get (entries_in new) i)) 0
+      ≡ unwrap_or (option_map (λ (e : Entry). e.place) (slice_get (entries_in map.broken) i)) 0
   places_stay i =
       column_kept (λ o. unwrap_or (option_map (λ (e : Entry). e.place) o) 0) (R i) (λ e f seated h. ap (λ (p : ℕ × ℕ × ℕ). p.0) seated)
-      (slice_get map.broken.entries.list.items i) (slice_get new.entries.list.items i) (changed.each i)
+      (slice_get (entries_in map.broken) i) (slice_get (entries_in new) i) (changed.each i)
 
-  pub seats_stay : AreSeated map.broken.entries.list.items new.entries.list.items
+  pub seats_stay : AreSeated (entries_in map.broken) (entries_in new)
   seats_stay =
-      seats_kept map.broken.entries.list.items new.entries.list.items
-      (λ m. position_kept (R m) (slice_get map.broken.entries.list.items m) (slice_get new.entries.list.items m) (changed.each m))
+      seats_kept (entries_in map.broken) (entries_in new)
+      (λ m. position_kept (R m) (slice_get (entries_in map.broken) m) (slice_get (entries_in new) m) (changed.each m))
 
 -- what two maps have alike, where the entries change each in its place
 module _ (R : ℕ → Entry → Entry → Type 0) (map : PlaceMap) where
   pub fits_each : (new : BrokenPlaces) → EachAdvances R map.broken new → Fits map map.values new
-  fits_each new changed = fits_seated map map.values new refl (ap vec_len changed.same.parts) (seats_stay R map new changed)
+  fits_each new changed = fits_seated map map.values new refl changed.same.pages (seats_stay R map new changed)
 
   module _ (new : PlaceMap) (values : new.values ≡ map.values) (pages : new.pages ≡ map.pages) (changed : EachAdvances R map.broken new.broken) where
     values_kept : (a : ℕ) → value_at new a ≡ value_at map a
@@ -134,19 +132,17 @@ module _ (map new : PlaceMap) (values : new.values ≡ map.values) (pages : new.
 
 -- at the place of an entry, by its number
 pub noted_by_number : (map : PlaceMap) (new : BrokenPlaces) (covers : List Cover) (by : Issuing) → EachAdvances (NotesAt covers by) map.broken new
-    → length covers ≡ length map.broken.entries.list.items → (i : ℕ) (c : Cover) → slice_get covers i ≡ Some c
+    → length covers ≡ length (entries_in map.broken) → (i : ℕ) (c : Cover) → slice_get covers i ≡ Some c
     → Noted (state_from None (marks_of (place_entry map (place_of map i)))) (pends_of by.issuer (place_entry map (place_of map i)))
     by.reach by.broadcast c (pends_of by.issuer (at_index None (entry_at new) (index_of (bases map.pages) (place_of map i))))
 noted_by_number map new covers by changed len i c cover =
     let within : i < length covers = slice_get_within covers i c cover in
-    let e = entry_there map.broken.entries.list.items i (omega (arith, within, len)) in
-    let cell = λ (m : ℕ) (is : slice_get map.broken.entries.list.items m ≡ Some e.0).
-    map.broken.entries.linked.back e.0.cell m (ap (option_map the_cell) is) in
+    let e = entry_there (entries_in map.broken) i (omega (arith, within, len)) in
     by_place (NotesAt covers by) map new changed
     (λ o p. o ≡ Some e.0 → Noted (state_from None (marks_of o)) (pends_of by.issuer o) by.reach by.broadcast c (pends_of by.issuer p))
     (λ h. absurd (none-some e.0 h))
     (λ m x f is seated h same.
-    let here : m ≡ i = same_Some m i (sym (cell m (is ∙ same)) ∙ cell i e.1) in
+    let here : m ≡ i = same_Some m i (sym (number_back map.broken m e.0 (is ∙ same)) ∙ number_back map.broken i e.0 e.1) in
     (h.2 c (ap (slice_get covers) here ∙ cover)).2)
     (place_of map i)
     (ap (place_entry map) (place_is map i e.0 e.1) ∙ entry_here map i e.0 e.1)

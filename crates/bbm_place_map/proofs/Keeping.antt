@@ -2,10 +2,10 @@
 use Rattle.bbm_place_map.proofs.Common.{◌≡◌, ◌≢◌, ℕ, ◌*◌, List, Option, Some, None, refl, ap, sym, ◌∙◌, slice_get}
 use Rattle.bbm_place_map.proofs.Common.{nat_eq, if◌then◌else◌, inr, subst}
 use Rattle.bbm_place_map.proofs.Common.{at_index, index_of, none-some, position, BrokenPlaces, ChangesOne, EachAdvances}
-use Rattle.bbm_place_map.proofs.Common.{Entries, Entry}
+use Rattle.bbm_place_map.proofs.Common.{Entries, Entry, entries_in}
 use Rattle.bbm_place_map.proofs.Common.{Advances, AreSeated, IsKept, Issuing, Keeps, KeepsOthers, Numbered, SameSeats}
 use Rattle.bbm_place_map.proofs.Common.{Vec, Global, Waits, Work, WorkList}
-use Rattle.bbm_place_map.proofs.Common.{entry_number, number_at, pages_in, vec_len}
+use Rattle.bbm_place_map.proofs.Common.{entry_number, number_at, pages_in}
 use Rattle.bbm_place_map.specs.PlaceNotes.{OnlyNotes}
 use Rattle.bbm_place_map.specs.Works.{Listed}
 use Rattle.bbm_place_map.proofs.Advancing.{advance_then, one_advances, position_kept}
@@ -16,29 +16,29 @@ use Rattle.bbm_place_map.proofs.Positions.{seats_by, seats_kept}
 use Rattle.bbm_place_map.proofs.Seats.{by_index}
 
 pub seats_all : (old : BrokenPlaces) → SameSeats old old
-seats_all old = record { parts = refl; cells = refl; len = refl }
+seats_all old = record { pages = refl; numbers = λ j. refl; len = refl }
 
 pub seats_more : {old mid new : BrokenPlaces} → SameSeats old mid → SameSeats mid new → SameSeats old new
-seats_more a b = record { parts = b.parts ∙ a.parts; cells = b.cells ∙ a.cells; len = b.len ∙ a.len }
+seats_more a b = record { pages = b.pages ∙ a.pages; numbers = λ j. b.numbers j ∙ a.numbers j; len = b.len ∙ a.len }
 
 pub each_then : {A B : ℕ → Entry → Entry → Type 0} (C : ℕ → Entry → Entry → Type 0) {old mid new : BrokenPlaces} → EachAdvances A old mid
     → EachAdvances B mid new → ((m : ℕ) (e f g : Entry) → position f ≡ position e → A m e f → B m f g → C m e g) → EachAdvances C old new
 each_then {A} {B} C {old} {mid} {new} a b by = record {
   same = seats_more a.same b.same;
   each = λ m.
-      advance_then (A m) (B m) (C m) (by m) (slice_get old.entries.list.items m) (slice_get mid.entries.list.items m) (slice_get new.entries.list.items m)
+      advance_then (A m) (B m) (C m) (by m) (slice_get (entries_in old) m) (slice_get (entries_in mid) m) (slice_get (entries_in new) m)
       (a.each m) (b.each m);
 }
 
 -- one entry changed
 pub one_changed : {R : Entry → Entry → Type 0} (S : Entry → Entry → Type 0) {old new : BrokenPlaces} {k : ℕ} → ChangesOne k R old new
-    → (e : Entry) → slice_get old.entries.list.items k ≡ Some e → ((f : Entry) → position f ≡ position e → R e f → S e f)
-    → ((m : ℕ) (x : Entry) → m ≢ k → slice_get old.entries.list.items m ≡ Some x → S x x) → EachAdvances (λ _. S) old new
+    → (e : Entry) → slice_get (entries_in old) k ≡ Some e → ((f : Entry) → position f ≡ position e → R e f → S e f)
+    → ((m : ℕ) (x : Entry) → m ≢ k → slice_get (entries_in old) m ≡ Some x → S x x) → EachAdvances (λ _. S) old new
 one_changed S {old} {new} {k} c e was now others =
     let f = c.entry e was in
     record {
       same = c.same;
-      each = one_advances S old.entries.list.items new.entries.list.items k e f.0 was f.1 (now f.0 f.1 f.2) f.3 others;
+      each = one_advances S (entries_in old) (entries_in new) k e f.0 was f.1 (now f.0 f.1 f.2) f.3 others;
     }
 
 pub moved : (R : ℕ → Entry → Entry → Type 0) (old new : List Entry) → ((m : ℕ) → Advances (R m) (slice_get old m) (slice_get new m)) → AreSeated old new
@@ -49,23 +49,23 @@ pub kept_moved : {base : ℕ → Option ℕ} {R : ℕ → Entry → Entry → Ty
 kept_moved {base} {R} {old} {new} kept changed =
     let N : ℕ → Type 0 = λ n. Numbered base (512 * n) in
     record {
-      numbered = subst N (sym (ap vec_len changed.same.parts)) kept.numbered;
+      numbered = subst N (sym changed.same.pages) kept.numbered;
       placed =
-          seats_by (λ p. index_of base p.0 ≡ Some p.1) old.entries.list.items new.entries.list.items
-          (moved R old.entries.list.items new.entries.list.items changed.each) kept.placed;
+          seats_by (λ p. index_of base p.0 ≡ Some p.1) (entries_in old) (entries_in new)
+          (moved R (entries_in old) (entries_in new) changed.each) kept.placed;
     }
 
 module _ {base : ℕ → Option ℕ} {broken : BrokenPlaces} (kept : IsKept base broken) (place : ℕ) where
   -- a number is that of the entry of its place, and an entry has its number
-  pub place_of_number : (k : ℕ) → entry_number base broken place ≡ Some k → (e : Entry) × (slice_get broken.entries.list.items k ≡ Some e) × (e.place ≡ place)
+  pub place_of_number : (k : ℕ) → entry_number base broken place ≡ Some k → (e : Entry) × (slice_get (entries_in broken) k ≡ Some e) × (e.place ≡ place)
   place_of_number k =
-      by_index (λ o. at_index None (number_at broken) o ≡ Some k → (e : Entry) × (slice_get broken.entries.list.items k ≡ Some e) × (e.place ≡ place))
+      by_index (λ o. at_index None (number_at broken) o ≡ Some k → (e : Entry) × (slice_get (entries_in broken) k ≡ Some e) × (e.place ≡ place))
       (index_of base place) (λ h. absurd (none-some k h))
       (λ j at h.
       let e = number_seat broken j k h in
       (e.0, e.1, index_once base (512 * pages_in broken) kept.numbered e.0.place place j (kept.placed k e.0 e.1 ∙ ap (λ (n : ℕ). Some n) e.2) at))
 
-  pub number_of_place : (m : ℕ) (x : Entry) → slice_get broken.entries.list.items m ≡ Some x → x.place ≡ place → entry_number base broken place ≡ Some m
+  pub number_of_place : (m : ℕ) (x : Entry) → slice_get (entries_in broken) m ≡ Some x → x.place ≡ place → entry_number base broken place ≡ Some m
   number_of_place m x is same =
       ap (entry_number base broken) (sym same) ∙ ap (at_index None (number_at broken)) (kept.placed m x is) ∙ number_back broken m x is
 

@@ -3,12 +3,12 @@ use Rattle.bbm_place_map.proofs.Bases.{numbered_in}
 use Rattle.bbm_place_map.proofs.Common.{◌≡◌, ℕ, ◌<◌, ◌%◌, true, List, length, Option, Some, None, is_some, refl, ap}
 use Rattle.bbm_place_map.proofs.Common.{sym, bases}
 use Rattle.bbm_place_map.proofs.Common.{◌∙◌, arith, inl, inr, slice_get, unwrap_or, option_map, false≢true, same_Some}
-use Rattle.bbm_place_map.proofs.Common.{none-some, slice_get_within, slice_get_cases, slot_in, entry_at}
+use Rattle.bbm_place_map.proofs.Common.{none-some, slice_get_within, slice_get_cases, entry_at, number_at}
 use Rattle.bbm_place_map.proofs.Common.{marks_of, pends_of, no_pends, place_entry, index_of, at_index, Entry, PlaceMap}
-use Rattle.bbm_place_map.proofs.Common.{vec_len}
-use Rattle.bbm_place_map.proofs.Held.{item_at, seat_at}
+use Rattle.bbm_place_map.proofs.Common.{vec_len, entries_in}
+use Rattle.bbm_place_map.proofs.Held.{item_at, number_back, seat_at}
 use Rattle.bbm_place_map.proofs.Places.{index_once, found}
-use Rattle.bbm_place_map.proofs.Seats.{the_cell, by_entry, by_index}
+use Rattle.bbm_place_map.proofs.Seats.{by_entry, by_index}
 
 pub entry_there : (entries : List Entry) (i : ℕ) → i < length entries → (e : Entry) × (slice_get entries i ≡ Some e)
 entry_there entries i within =
@@ -23,7 +23,7 @@ none_waits q (Some e) h = absurd (none-some e.marks (sym h))
 
 module _ (map : PlaceMap) where
   abbrev pub items : List Entry
-  items = map.broken.entries.list.items
+  items = (entries_in map.broken)
 
   abbrev pub place_of : ℕ → ℕ
   place_of i = unwrap_or (option_map (λ (e : Entry). e.place) (slice_get items i)) 0
@@ -60,9 +60,7 @@ module _ (map : PlaceMap) where
       let is : e.0 ≡ f.0
       = same_Some e.0 f.0 (sym (entry_here i e.0 e.1) ∙ ap (place_entry map) (sym (place_is i e.0 e.1) ∙ same ∙ place_is j f.0 f.1)
       ∙ entry_here j f.0 f.1) in
-      let linked = map.broken.entries.linked in
-      same_Some i j (sym (linked.back e.0.cell i (ap (option_map the_cell) e.1)) ∙ ap (λ (x : Entry). slot_in map.broken.entries.cells.items x.cell) is
-      ∙ linked.back f.0.cell j (ap (option_map the_cell) f.1))
+      same_Some i j (sym (number_back map.broken i e.0 e.1) ∙ ap (λ (x : Entry). number_at map.broken x.index) is ∙ number_back map.broken j f.0 f.1)
 
   pub place_each : (a : ℕ) → is_some (marks_of (place_entry map a)) ≡ true → (i : ℕ) × (i < length items) × (place_of i ≡ a)
   place_each a =

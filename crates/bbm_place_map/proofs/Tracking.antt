@@ -1,12 +1,12 @@
 -- A page that is tracked anew, once there is room for it.
 use Rattle.bbm_place_map.proofs.Common.{◌≡◌, ◌+◌, ◌*◌, ◌/◌, ◌%◌, ◌≤◌, ℕ, Bool, List, length}
-use Rattle.bbm_place_map.proofs.Common.{Some, None}
+use Rattle.bbm_place_map.proofs.Common.{Some, None, entries_in}
 use Rattle.bbm_place_map.proofs.Common.{refl, ap, sym, subst, ◌∙◌, arith, vec_len}
 use Rattle.bbm_place_map.proofs.Common.{if◌then◌else◌, get_or_past, bases, value_in, IsSame}
 use Rattle.bbm_place_map.proofs.Common.{option_map, slice_get}
 use Rattle.bbm_place_map.proofs.Common.{KeepsItems, Numbered, Placed, at_index, index_of, BrokenPlaces, Entry}
-use Rattle.bbm_place_map.proofs.Common.{HoldsSame, SameEntries}
-use Rattle.bbm_place_map.proofs.Common.{PlaceMap, entry_at, entry_in, entry_of_cell, cell_by, marks_of, pends_of}
+use Rattle.bbm_place_map.proofs.Common.{SameEntries}
+use Rattle.bbm_place_map.proofs.Common.{PlaceMap, entry_at, entry_of_cell, marks_of, pends_of}
 use Rattle.bbm_place_map.proofs.Common.{place_entry, pages_in}
 use Rattle.std.specs.Prelude.{unwrap_or}
 use Rattle.bbm_place_map.proofs.Places.{at_same}
@@ -17,20 +17,13 @@ use Rattle.bbm_place_map.proofs.Common.{bases, number_in, ◌++◌, ◌∷◌, [
 use Rattle.bbm_place_map.proofs.Growing.{flip, placed_more, points_more, Grown}
 use Rattle.bbm_place_map.specs.Map.{pages_of, marks_at, pends_at, value_at, restless_in, restless_place}
 
--- the same parts, cells and entries
-held_same : (old new : BrokenPlaces) → HoldsSame old new → (j : ℕ) → entry_at new j ≡ entry_at old j
-held_same old new same j =
-    ap (λ (xs : List ℕ). at_index None (entry_of_cell new.entries) (cell_by xs j)) same.parts
-    ∙ ap (λ (xs : List ℕ). at_index None (entry_in xs new.entries.list.items) (cell_by old.parts.items j)) same.cells
-    ∙ ap (λ (xs : List Entry). at_index None (entry_in old.entries.cells.items xs) (cell_by old.parts.items j)) same.list
-
 pub kept_same : (old new : PlaceMap) → KeepsItems old new → IsSame old new
 unfolding value_at marks_at pends_at pages_of restless_in restless_place
 kept_same old new kept =
     let index = λ (a : ℕ). ap (λ (ps : List ℕ). index_of (bases ps) a) kept.pages in
     let entry : (a : ℕ) → place_entry new a ≡ place_entry old a
     = λ a. ap (at_index None (entry_at new.broken)) (index a)
-    ∙ at_same None (entry_at old.broken) (entry_at new.broken) (held_same old.broken new.broken kept.broken) (index_of (bases old.pages) a) in
+    ∙ at_same None (entry_at old.broken) (entry_at new.broken) kept.broken.same.entries (index_of (bases old.pages) a) in
     record {
       values = λ a.
           ap (at_index 0 (value_in new.values.items)) (index a)
@@ -38,8 +31,8 @@ kept_same old new kept =
       marks = λ a. ap marks_of (entry a);
       pends = λ q a. ap (pends_of q) (entry a);
       pages = kept.pages;
-      restless = ap (λ (xs : List Entry). length xs) kept.broken.list;
-      places = λ i. ap (λ (xs : List Entry). unwrap_or (option_map (λ (e : Entry). e.place) (slice_get xs i)) 0) kept.broken.list;
+      restless = ap (λ (xs : List Entry). length xs) kept.broken.same.list;
+      places = λ i. ap (λ (xs : List Entry). unwrap_or (option_map (λ (e : Entry). e.place) (slice_get xs i)) 0) kept.broken.same.list;
     }
 
 -- no place is broken past the pages
@@ -77,8 +70,8 @@ module _ (old map : PlaceMap) (kept : KeepsItems old map) (new : List ℕ) (page
       let longer : length new ≡ length map.pages + 1 = ap length added ∙ length-append map.pages (page ∷ []) in
       omega (arith, longer, more, map.paged)
 
-  pub placed_then : Placed (bases new) map.broken.entries.list.items
-  placed_then = placed_more grown map.broken.entries.list.items map.placed
+  pub placed_then : Placed (bases new) (entries_in map.broken)
+  placed_then = placed_more grown (entries_in map.broken) map.placed
 
   pub values_then : (values : List ℕ) → ((i : ℕ) → value_in values i ≡ value_in map.values.items i) → (a : ℕ)
       → at_index 0 (value_in values) (index_of (bases new) a) ≡ value_at old a

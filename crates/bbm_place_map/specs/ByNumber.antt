@@ -1,7 +1,7 @@
 -- What is kept of the broken places, by the numbers of their values, and what calls change of them.
 -- Source: project's own choice.
 use Rattle.std.specs.Prelude.{◌≡◌, ℕ, ◌+◌, ◌*◌, ◌^◌, ◌<◌, ◌≤◌, ◌⊎◌, Bool, true, false, Option, Some, None, nat_eq}
-use Rattle.std.specs.Prelude.{length, slice_get, vec_len, vec_capacity, if◌then◌else◌}
+use Rattle.std.specs.Prelude.{List, length, slice_get, vec_len, vec_capacity, if◌then◌else◌}
 use Rattle.bbm_entry_state.specs.declared.marks.Marks.{Marks}
 use Rattle.bbm_place_map.specs.Cells.{cell_by, slot_in}
 use Rattle.bbm_place_map.specs.Dsbs.{KeepsSeats}
@@ -13,6 +13,10 @@ use Rattle.bbm_place_map.specs.Sound.{Numbered, Placed, at_index, index_of}
 use Rattle.bbm_place_map.specs.declared.broken.BrokenPlaces.{BrokenPlaces}
 use Rattle.bbm_place_map.specs.declared.entry.Entry.{Entry}
 use Rattle.bbm_place_map.specs.declared.orders.Barrier.{Barrier}
+
+-- the entries, in the order of their numbers
+abbrev pub entries_in : BrokenPlaces → List Entry
+entries_in broken = broken.entries.list.items
 
 -- the number of the entry of a place, and the entry; None where the place isn't broken
 abbrev pub number_at : BrokenPlaces → ℕ → Option ℕ
@@ -36,47 +40,46 @@ pub record HasPageRoom (broken : BrokenPlaces) : Type 0 where
   pub room : 512 * (vec_len broken.parts + 1) ≤ vec_capacity broken.entries.list
   pub few : 512 * (vec_len broken.parts + 1) < 2 ^ 32
 
--- The same pages, cells and entries, in as much room or more.
-pub record HoldsSame (old new : BrokenPlaces) : Type 0 where
-  pub parts : new.parts.items ≡ old.parts.items
-  pub cells : new.entries.cells.items ≡ old.entries.cells.items
-  pub list : new.entries.list.items ≡ old.entries.list.items
-
 -- The same entries, by the same numbers.
 pub record SameEntries (old new : BrokenPlaces) : Type 0 where
-  pub list : new.entries.list ≡ old.entries.list
+  pub list : entries_in new ≡ entries_in old
   pub entries : (j : ℕ) → entry_at new j ≡ entry_at old j
+
+-- So are they, of as many pages.
+pub record HoldsSame (old new : BrokenPlaces) : Type 0 where
+  pub pages : pages_in new ≡ pages_in old
+  pub same : SameEntries old new
 
 -- A place is broken with these marks. What waits there stays, and so does the rest.
 pub record Breaks (j place : ℕ) (by : Marks) (old new : BrokenPlaces) : Type 0 where
   pub pages : pages_in new ≡ pages_in old
-  pub seats : (k : ℕ) (e : Entry) → slice_get new.entries.list.items k ≡ Some e
-      → WasSeated old.entries.list.items e ⊎ ((e.place ≡ place) × (e.index ≡ j))
+  pub seats : (k : ℕ) (e : Entry) → slice_get (entries_in new) k ≡ Some e
+      → WasSeated (entries_in old) e ⊎ ((e.place ≡ place) × (e.index ≡ j))
   pub entry : (e : Entry) × (e.marks ≡ by) × ((q : ℕ) → pends_in e.pends.items q ≡ pends_of q (entry_at old j))
       × ((i : ℕ) → entry_at new i ≡ (if nat_eq i j then Some e else entry_at old i))
 
 -- These places aren't broken, and nothing waits there. The rest stays.
 pub record Clears (these : ℕ → Bool) (old new : BrokenPlaces) : Type 0 where
   pub pages : pages_in new ≡ pages_in old
-  pub seats : AreSeated old.entries.list.items new.entries.list.items
+  pub seats : AreSeated (entries_in old) (entries_in new)
   pub entries : (i : ℕ) → entry_at new i ≡ (if these i then None else entry_at old i)
 
--- As many entries of the same cells.
+-- As many pages and entries, and each place has its entry's number.
 pub record SameSeats (old new : BrokenPlaces) : Type 0 where
-  pub parts : new.parts ≡ old.parts
-  pub cells : new.entries.cells ≡ old.entries.cells
-  pub len : length new.entries.list.items ≡ length old.entries.list.items
+  pub pages : pages_in new ≡ pages_in old
+  pub numbers : (j : ℕ) → number_at new j ≡ number_at old j
+  pub len : length (entries_in new) ≡ length (entries_in old)
 
 -- One entry changes in its place, as the relation says.
 pub record ChangesOne (k : ℕ) (R : Entry → Entry → Type 0) (old new : BrokenPlaces) : Type 0 where
   pub same : SameSeats old new
-  pub entry : (e : Entry) → slice_get old.entries.list.items k ≡ Some e → (f : Entry) × (position f ≡ position e) × R e f
-      × ((i : ℕ) → slice_get new.entries.list.items i ≡ (if nat_eq i k then Some f else slice_get old.entries.list.items i))
+  pub entry : (e : Entry) → slice_get (entries_in old) k ≡ Some e → (f : Entry) × (position f ≡ position e) × R e f
+      × ((i : ℕ) → slice_get (entries_in new) i ≡ (if nat_eq i k then Some f else slice_get (entries_in old) i))
 
 -- Each entry does.
 pub record EachAdvances (R : ℕ → Entry → Entry → Type 0) (old new : BrokenPlaces) : Type 0 where
   pub same : SameSeats old new
-  pub each : (m : ℕ) → Advances (R m) (slice_get old.entries.list.items m) (slice_get new.entries.list.items m)
+  pub each : (m : ℕ) → Advances (R m) (slice_get (entries_in old) m) (slice_get (entries_in new) m)
 
 -- the number of the entry of a place, where pages have these bases; None where the place isn't broken
 abbrev pub entry_number : (ℕ → Option ℕ) → BrokenPlaces → ℕ → Option ℕ
@@ -85,13 +88,13 @@ entry_number base broken place = at_index None (number_at broken) (index_of base
 -- Pages have values there, and the place of each entry is that of its number.
 pub record IsKept (base : ℕ → Option ℕ) (broken : BrokenPlaces) : Type 0 where
   pub numbered : Numbered base (512 * pages_in broken)
-  pub placed : Placed base broken.entries.list.items
+  pub placed : Placed base (entries_in broken)
 
 -- A DSB visited each broken place, and told whether one over a table left.
 pub record VisitsPlaces (by : Barrier) (old new : BrokenPlaces) (told : Bool) : Type 0 where
   pub pages : pages_in new ≡ pages_in old
-  pub seats : AreSeated old.entries.list.items new.entries.list.items
-  pub order : KeepsSeats by.effect old.entries.list.items new.entries.list.items
+  pub seats : AreSeated (entries_in old) (entries_in new)
+  pub order : KeepsSeats by.effect (entries_in old) (entries_in new)
   pub each : (j : ℕ) → Does by.effect by (entry_at old j) (entry_at new j)
   pub lost : told ≡ true → (j : ℕ) × (loses_table (marks_of (entry_at old j)) (marks_of (entry_at new j)) ≡ true)
   pub kept : told ≡ false → (j : ℕ) → loses_table (marks_of (entry_at old j)) (marks_of (entry_at new j)) ≡ false

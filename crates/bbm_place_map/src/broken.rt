@@ -40,8 +40,7 @@ const MAX_PAGES: usize = 1 << 22;
 pub struct BrokenPlaces {
     alloc: Global,
     parts: Vec<u32>,
-    /// The entries, by their cells.
-    pub entries: Entries,
+    entries: Entries,
     work: Work,
     ghost sound: { IsSound parts.items entries },
     ghost listed: { Listed work entries.cells.items entries.list.items },
@@ -49,12 +48,12 @@ pub struct BrokenPlaces {
 
 impl BrokenPlaces {
     ghost use Rattle.bbm_place_map.specs.ByNumber.{Breaks, ChangesOne, Clears, HasPageRoom, HoldsSame, IsAt, SameEntries};
-    ghost use Rattle.bbm_place_map.specs.ByNumber.{VisitsPlaces, entry_at, number_at, pages_in};
+    ghost use Rattle.bbm_place_map.specs.ByNumber.{VisitsPlaces, entries_in, entry_at, number_at, pages_in};
 
     /// No page, and so no broken place. It takes no memory.
     pub fn new(alloc: Global) -> BrokenPlaces
         ensures pages { pages_in result ≡ 0 }
-        ensures list { result.entries.list.items ≡ [] }
+        ensures list { entries_in result ≡ [] }
     {
         BrokenPlaces {
             alloc,
@@ -90,7 +89,7 @@ impl BrokenPlaces {
     /// How many places are broken.
     #[inline(always)]
     pub fn len(&self) -> usize
-        ensures { result ≡ length self.now.entries.list.items }
+        ensures { result ≡ length (entries_in self.now) }
     {
         self.entries.list.len()
     }
@@ -98,8 +97,8 @@ impl BrokenPlaces {
     /// One of the entries, by its number.
     #[inline(always)]
     pub fn item(&self, k: usize) -> &Entry
-        requires { k < length self.now.entries.list.items }
-        ensures { slice_get self.now.entries.list.items k ≡ Some result.now }
+        requires { k < length (entries_in self.now) }
+        ensures { slice_get (entries_in self.now) k ≡ Some result.now }
     {
         &self.entries.list[k]
     }
@@ -138,8 +137,7 @@ impl BrokenPlaces {
     fn cell(&mut self, j: usize) -> usize
         requires { j < VALUES * pages_in self.old }
         ensures cell { IsAt self.new j result }
-        ensures same { SameEntries self.old self.new }
-        ensures pages { pages_in self.new ≡ pages_in self.old }
+        ensures same { HoldsSame self.old self.new }
     {
         match read::cell(&self.parts, j) {
             Some(i) => i,
@@ -155,8 +153,7 @@ impl BrokenPlaces {
         requires none { slot_in self.old.parts.items page ≡ None }
         ensures start { slot_in self.new.parts.items page ≡ Some result }
         ensures few { result < 2 ^ 32 }
-        ensures same { SameEntries self.old self.new }
-        ensures pages { pages_in self.new ≡ pages_in self.old }
+        ensures same { HoldsSame self.old self.new }
     {
         let start = self.entries.cells.len();
         self.entries.add_cells(VALUES);
@@ -248,7 +245,7 @@ impl BrokenPlaces {
     /// Makes room at an entry for what waits for the answers of a lane. `NoMemory` where there is none.
     #[inline(always)]
     pub fn make_room(&mut self, k: usize, lane: Lane) -> Result<(), NoMemory>
-        requires { k < length self.old.entries.list.items }
+        requires { k < length (entries_in self.old) }
         ensures { ChangesOne k (λ e f. Keeps e f × OnOk result (HasRoom f.pends lane)) self.old self.new }
     {
         make_room_at(&mut self.entries, k, lane)
@@ -257,8 +254,8 @@ impl BrokenPlaces {
     /// Notes a TLBI at an entry that is covered so far, if it isn't noted there already, where there is room for its lane.
     #[inline(always)]
     pub fn note(&mut self, k: usize, tlbi: &Issuing, cover: Cover)
-        requires within { k < length self.old.entries.list.items }
-        requires ready { (e : TheEntry) → slice_get self.old.entries.list.items k ≡ Some e → is_cover cover ≡ true
+        requires within { k < length (entries_in self.old) }
+        requires ready { (e : TheEntry) → slice_get (entries_in self.old) k ≡ Some e → is_cover cover ≡ true
             → HasRoom e.pends (lane_of tlbi.now.issuer tlbi.now.broadcast) }
         ensures { ChangesOne k (NotesAs cover tlbi.now) self.old self.new }
     {

@@ -14,7 +14,7 @@ mod writing;
 
 ghost use Rattle.std.specs.Prelude.{◌≡◌, ◌≤◌, ◌<◌, ◌*◌, length, vec_len};
 ghost use Rattle.std.proofs.Props.{props};
-ghost use Rattle.bbm_place_map.specs.ByNumber.{pages_in};
+ghost use Rattle.bbm_place_map.specs.ByNumber.{entries_in, pages_in};
 ghost use Rattle.bbm_place_map.specs.Sound.{Placed, bases};
 
 use crate::broken::BrokenPlaces;
@@ -35,7 +35,7 @@ pub struct PlaceMap {
     broken: BrokenPlaces,
     ghost counted: { 512 * length pages ≡ vec_len values },
     ghost paged: { pages_in broken ≡ length pages },
-    ghost placed: { Placed (bases pages) broken.entries.list.items },
+    ghost placed: { Placed (bases pages) (entries_in broken) },
 }
 
 impl PlaceMap {

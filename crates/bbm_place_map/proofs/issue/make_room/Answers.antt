@@ -1,8 +1,8 @@
 use Rattle.bbm_place_map.proofs.Common.{◌≡◌, ◌<◌, ◌+◌, ap, refl, arith, sym, subst, ◌∙◌, false≢true, length, slice_get}
-use Rattle.bbm_place_map.proofs.Common.{same_Some}
-use Rattle.bbm_place_map.proofs.Common.{BrokenPlaces, Cover, Some, is_cover, put_away, true}
+use Rattle.bbm_place_map.proofs.Common.{same_Some, entries_in}
+use Rattle.bbm_place_map.proofs.Common.{BrokenPlaces, Cover, Some, is_cover, true}
 use Rattle.bbm_place_map.specs.PlaceNotes.{Readies}
-use Rattle.bbm_place_map.proofs.Advancing.{all_done, done_more, rest_more, self_advances}
+use Rattle.bbm_place_map.proofs.Advancing.{all_done, done_more, rest_more}
 use Rattle.bbm_place_map.proofs.Issued.{cover_read}
 use Rattle.bbm_place_map.proofs.Keeping.{seats_all, seats_more}
 use Rattle.bbm_place_map.proofs.Noting.{gets_same}
@@ -19,8 +19,8 @@ loop-k-preserved c =
     let k = c.loop-k.k in
     let inv = c.loop-k.invariant in
     let covers = c.args.covers.now in
-    let start = c.args.broken.now.entries.list.items in
-    let mid = c.loop-k.broken.entries.list.items in
+    let start = (entries_in c.args.broken.now) in
+    let mid = (entries_in c.loop-k.broken) in
     let within : k < length mid = omega (arith, inv.same.len) in
     let e = entry_there mid k within in
     let R = Readies c.args.lane covers in
@@ -29,7 +29,7 @@ loop-k-preserved c =
       | then-is_cover+in_ok-make_room w ↦
           let made = w.in_ok-make_room.ensures in
           let f = made.entry e.0 e.1 in
-          let new = w.make_room.new.self.entries.list.items in
+          let new = (entries_in w.make_room.new.self) in
           subst P (sym w.broken-is) (record {
             done = done_more R start mid new k e.0 f.0 inv.done inv.rest e.1 f.1 (f.2.0.0, f.2.0.1, λ x _ _. f.2.1) f.3;
             rest = rest_more R start mid new k e.0 f.0 inv.done inv.rest e.1 f.1 (f.2.0.0, f.2.0.1, λ x _ _. f.2.1) f.3;
@@ -48,5 +48,5 @@ loop-k-preserved c =
 
 pub returns-clause-ready : goal.returns-clause-ready
 returns-clause-ready c =
-    all_done (Readies c.args.lane c.args.covers.now) c.args.broken.now.entries.list.items c.loop-k.broken.entries.list.items c.loop-k.k
+    all_done (Readies c.args.lane c.args.covers.now) (entries_in c.args.broken.now) (entries_in c.loop-k.broken) c.loop-k.k
     (omega arith) c.loop-k.invariant.done c.loop-k.invariant.rest

@@ -1,5 +1,5 @@
 use Rattle.bbm_place_map.proofs.Common.{◌≡◌, ℕ, Some, refl, ap, sym, subst, ◌∙◌, inl, inr, slice_get, OnOk-map}
-use Rattle.bbm_place_map.proofs.Common.{cases_eq, same_Some, none-some}
+use Rattle.bbm_place_map.proofs.Common.{cases_eq, same_Some, none-some, entries_in}
 use Rattle.bbm_place_map.proofs.Common.{slice_get_within, HasRoom, Keeps, Entry, put_here, put_away}
 use Rattle.bbm_place_map.proofs.Advancing.{self_advances}
 use Rattle.bbm_place_map.proofs.Keeping.{number_of_place, one_changed, place_of_number, seats_all}
@@ -8,7 +8,7 @@ use Rattle.bbm_place_map.proofs.issue.make_room_for.Goals as goal
 pub make_room-requires : goal.make_room-requires
 make_room-requires c =
     let e = place_of_number c.requires c.args.item.place c.in-Some.k (sym c.entry_of.ensures ∙ c.in-Some.is) in
-    slice_get_within c.args.broken.now.entries.list.items c.in-Some.k e.0 e.1
+    slice_get_within (entries_in c.args.broken.now) c.in-Some.k e.0 e.1
 
 pub returns-in-Some-clause-each : goal.returns-in-Some-clause-each
 returns-in-Some-clause-each c =
@@ -17,7 +17,7 @@ returns-in-Some-clause-each c =
 
 pub returns-in-Some-clause-ready : goal.returns-in-Some-clause-ready
 returns-in-Some-clause-ready c =
-    let new = c.make_room.new.self.entries.list.items in
+    let new = (entries_in c.make_room.new.self) in
     let at = sym c.entry_of.ensures ∙ c.in-Some.is in
     let e = place_of_number c.requires c.args.item.place c.in-Some.k at in
     let f = c.make_room.ensures.entry e.0 e.1 in
@@ -35,7 +35,7 @@ returns-in-Some-clause-ready c =
 
 pub returns-in-Some-clause-others : goal.returns-in-Some-clause-others
 returns-in-Some-clause-others c = λ m x is other.
-    let new = c.make_room.new.self.entries.list.items in
+    let new = (entries_in c.make_room.new.self) in
     let e = place_of_number c.requires c.args.item.place c.in-Some.k (sym c.entry_of.ensures ∙ c.in-Some.is) in
     let f = c.make_room.ensures.entry e.0 e.1 in
     elim (cases_eq m c.in-Some.k) [
@@ -48,7 +48,7 @@ returns-in-Some-clause-others c = λ m x is other.
 pub returns-in-None-clause-each : goal.returns-in-None-clause-each
 returns-in-None-clause-each c = record {
   same = seats_all c.args.broken.now;
-  each = λ m. self_advances Keeps (slice_get c.args.broken.now.entries.list.items m) (λ x is. (refl, refl));
+  each = λ m. self_advances Keeps (slice_get (entries_in c.args.broken.now) m) (λ x is. (refl, refl));
 }
 
 pub returns-in-None-clause-ready : goal.returns-in-None-clause-ready

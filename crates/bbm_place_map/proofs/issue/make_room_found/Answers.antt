@@ -1,6 +1,6 @@
 use Rattle.bbm_place_map.proofs.Common.{nat_eq, ap, sym, ◌∙◌, inl, inr, slice_get, take, List, cases_Bool, eq-eqb}
 use Rattle.bbm_place_map.proofs.Common.{eqb-true, false≢true, is_found, Keeps, Found}
-use Rattle.bbm_place_map.proofs.Common.{refl}
+use Rattle.bbm_place_map.proofs.Common.{refl, entries_in}
 use Rattle.bbm_place_map.proofs.Advancing.{self_advances}
 use Rattle.bbm_place_map.proofs.Finding.{found_off, take_more}
 use Rattle.bbm_place_map.proofs.Keeping.{each_then, kept_moved, seats_all}
@@ -13,7 +13,7 @@ pub loop-i-init : goal.loop-i-init
 loop-i-init c = record {
   each = record {
     same = seats_all c.args.broken.now;
-    each = λ m. self_advances Keeps (slice_get c.args.broken.now.entries.list.items m) (λ x is. (refl, refl));
+    each = λ m. self_advances Keeps (slice_get (entries_in c.args.broken.now) m) (λ x is. (refl, refl));
   };
   ready = λ m e is among. absurd (false≢true among);
 }

@@ -1,5 +1,5 @@
-use Rattle.bbm_place_map.proofs.Common.{◌<◌, arith, refl, sym, ◌∙◌, slice_get, length, NotesAt}
-use Rattle.bbm_place_map.proofs.Advancing.{done_more, rest_more, all_done, self_advances}
+use Rattle.bbm_place_map.proofs.Common.{◌<◌, arith, refl, sym, ◌∙◌, length, NotesAt, entries_in}
+use Rattle.bbm_place_map.proofs.Advancing.{done_more, rest_more, all_done}
 use Rattle.bbm_place_map.proofs.Issued.{cover_read}
 use Rattle.bbm_place_map.proofs.Keeping.{seats_all, seats_more}
 use Rattle.bbm_place_map.proofs.Noting.{notes_at}
@@ -22,9 +22,9 @@ pub loop-k-preserved : goal.loop-k-preserved
 loop-k-preserved c =
     let k = c.loop-k.k in
     let inv = c.loop-k.invariant in
-    let start = c.args.broken.now.entries.list.items in
-    let mid = c.loop-k.broken.entries.list.items in
-    let new = c.note.new.self.entries.list.items in
+    let start = (entries_in c.args.broken.now) in
+    let mid = (entries_in c.loop-k.broken) in
+    let new = (entries_in c.note.new.self) in
     let within : k < length mid = omega (arith, inv.same.len) in
     let e = entry_there mid k within in
     let f = c.note.ensures.entry e.0 e.1 in
@@ -41,6 +41,6 @@ pub returns : goal.returns
 returns c = record {
   same = c.loop-k.invariant.same;
   each =
-      all_done (NotesAt c.args.covers.now c.args.tlbi.now) c.args.broken.now.entries.list.items c.loop-k.broken.entries.list.items c.loop-k.k (omega arith)
+      all_done (NotesAt c.args.covers.now c.args.tlbi.now) (entries_in c.args.broken.now) (entries_in c.loop-k.broken) c.loop-k.k (omega arith)
       c.loop-k.invariant.done c.loop-k.invariant.rest;
 }

@@ -1,6 +1,6 @@
 use Rattle.bbm_place_map.proofs.Common.{◌≡◌, ℕ, Option, Vec, Global, ap, sym, subst, ◌∙◌, arith, inr, is_some}
 use Rattle.bbm_place_map.proofs.Common.{cell_by, slot_in, vec_capacity, entry_in, entry_of, length, ◌*◌, ◌≤◌, Some}
-use Rattle.bbm_place_map.proofs.Common.{slice_get, Entry}
+use Rattle.bbm_place_map.proofs.Common.{slice_get, Entry, entries_in}
 use Rattle.bbm_place_map.proofs.Edits.{fewer_listed, one_if}
 use Rattle.bbm_place_map.proofs.Held.{part_entries, part_numbered, part_seated}
 use Rattle.bbm_place_map.proofs.Listing.{listed_fewer}
@@ -63,9 +63,13 @@ pub returns-clause-same : goal.returns-clause-same
 returns-clause-same c =
     let self = c.args.self.now in
     let new = c.add_cells.new.self in
+    let list : new.list.items ≡ entries_in self = ap (λ (v : Vec Entry Global). v.items) c.add_cells.ensures.list in
     record {
-      list = c.add_cells.ensures.list;
-      entries =
-          part_entries self c.put_slot.new.cells.items new.cells.items c.args.page c.len-start.result c.len-start.ensures c.requires.none
-          c.put_slot.ensures.slots c.add_cells.ensures.slots new.list.items (ap (λ (v : Vec Entry Global). v.items) c.add_cells.ensures.list);
+      pages = c.put_slot.ensures.len;
+      same = record {
+        list = list;
+        entries =
+            part_entries self c.put_slot.new.cells.items new.cells.items c.args.page c.len-start.result c.len-start.ensures c.requires.none
+            c.put_slot.ensures.slots c.add_cells.ensures.slots new.list.items list;
+      };
     }

@@ -20,7 +20,7 @@ pub link-requires-clause-free : goal.link-requires-clause-free
 link-requires-clause-free c =
     let mid = c.cell-i.new.self in
     free_cell mid.entries.cells.items mid.entries.list.items mid.entries.linked c.cell-i.result
-    (ap marks_of (none mid c.args.j c.cell-i.result c.cell-i.ensures.cell (c.cell-i.ensures.same.entries c.args.j ∙ c.requires.whole)))
+    (ap marks_of (none mid c.args.j c.cell-i.result c.cell-i.ensures.cell (c.cell-i.ensures.same.same.entries c.args.j ∙ c.requires.whole)))
 
 pub invariant_of-self : goal.invariant_of-self
 invariant_of-self c =
@@ -30,14 +30,14 @@ invariant_of-self c =
     let n = c.note_break.ensures in
     let made = c.broken_by-marks.ensures in
     let i = c.cell-i.result in
-    let was = none mid c.args.j i c.cell-i.ensures.cell (c.cell-i.ensures.same.entries c.args.j ∙ c.requires.whole) in
+    let was = none mid c.args.j i c.cell-i.ensures.cell (c.cell-i.ensures.same.same.entries c.args.j ∙ c.requires.whole) in
     record {
       sound = sound_marked mid.parts.items mid.entries new c.args.j c.args.place i c.cell-i.ensures.cell e.room e.seats mid.sound;
       listed =
           listed_fresh mid.work c.note_break.new.work mid.entries.cells.items new.cells.items mid.entries.list.items new.list.items
           i c.args.pe c.broken_by-marks.result n.pes (ap marks_of was) made.writers made.clean n.there n.kept n.waiting n.settled
-          (broken_marks c.args.self.now mid new c.args.j c.args.place i c.broken_by-marks.result c.cell-i.ensures.cell c.cell-i.ensures.same e)
-          (broken_pends c.args.self.now mid new c.args.j c.args.place i c.broken_by-marks.result c.cell-i.ensures.cell c.cell-i.ensures.same e)
+          (broken_marks c.args.self.now mid new c.args.j c.args.place i c.broken_by-marks.result c.cell-i.ensures.cell c.cell-i.ensures.same.same e)
+          (broken_pends c.args.self.now mid new c.args.j c.args.place i c.broken_by-marks.result c.cell-i.ensures.cell c.cell-i.ensures.same.same e)
           mid.listed;
     }
 
@@ -46,7 +46,7 @@ returns c =
     let old = c.args.self.now in
     let mid = c.cell-i.new.self in
     let e = c.link.ensures in
-    let same = c.cell-i.ensures.same in
+    let same = c.cell-i.ensures.same.same in
     let at = c.cell-i.ensures.cell in
     let made = c.broken_by-marks.ensures in (
       c.broken_by-marks.result,
@@ -59,7 +59,7 @@ returns c =
         clean = made.clean;
       },
       record {
-        pages = c.cell-i.ensures.pages;
+        pages = c.cell-i.ensures.same.pages;
         seats = broken_seats old mid c.link.new.self c.args.j c.args.place c.cell-i.result c.broken_by-marks.result at same e;
         entry = broken_entry old mid c.link.new.self c.args.j c.args.place c.cell-i.result c.broken_by-marks.result at same e;
       },

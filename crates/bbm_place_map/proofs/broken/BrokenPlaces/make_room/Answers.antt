@@ -1,5 +1,5 @@
 use Rattle.bbm_place_map.proofs.Common.{refl}
-use Rattle.bbm_place_map.proofs.Held.{sound_changed}
+use Rattle.bbm_place_map.proofs.Held.{seats_same, sound_changed}
 use Rattle.bbm_place_map.proofs.Keeping.{listed_made}
 use Rattle.bbm_place_map.proofs.Restless.{entry_there}
 use Rattle.bbm_place_map.proofs.broken.BrokenPlaces.make_room.Goals as goal
@@ -20,6 +20,6 @@ pub returns : goal.returns
 returns c =
     let r = c.make_room_at.ensures in
     record {
-      same = record { parts = refl; cells = r.cells; len = r.size.len };
+      same = seats_same refl r.cells r.size.len;
       entry = λ e is. let f = r.entry e is in (f.0, f.1, (f.2, f.3), f.4);
     }

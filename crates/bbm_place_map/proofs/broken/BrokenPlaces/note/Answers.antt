@@ -1,5 +1,5 @@
 use Rattle.bbm_place_map.proofs.Common.{refl}
-use Rattle.bbm_place_map.proofs.Held.{sound_changed}
+use Rattle.bbm_place_map.proofs.Held.{seats_same, sound_changed}
 use Rattle.bbm_place_map.proofs.Keeping.{listed_after}
 use Rattle.bbm_place_map.proofs.Restless.{entry_there}
 use Rattle.bbm_place_map.proofs.broken.BrokenPlaces.note.Goals as goal
@@ -22,6 +22,6 @@ pub returns : goal.returns
 returns c =
     let r = c.note_entry.ensures in
     record {
-      same = record { parts = refl; cells = r.rest.cells; len = r.rest.size.len };
+      same = seats_same refl r.rest.cells r.rest.size.len;
       entry = λ e is. let f = r.entry e is in (f.0, f.1, f.2, f.4);
     }

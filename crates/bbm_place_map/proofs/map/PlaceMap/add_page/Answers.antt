@@ -1,5 +1,5 @@
 use Rattle.bbm_place_map.proofs.Common.{◌≡◌, ◌∙◌, ◌+◌, ◌++◌, ◌∷◌, [], ℕ, List, ap, arith, number_in, vec_len, bases}
-use Rattle.bbm_place_map.proofs.Common.{pages_in, sym, subst, Vec, Global, Entry, Placed}
+use Rattle.bbm_place_map.proofs.Common.{pages_in, sym, subst, Entry, Placed}
 use Rattle.bbm_place_map.proofs.Growing.{not_some}
 use Rattle.bbm_place_map.proofs.Tracking.{counted_then, marks_then, paged_then, pends_then, placed_then, values_then}
 use Rattle.bbm_place_map.specs.Map.{marks_at, pages_of, pends_at, value_at}
@@ -16,7 +16,7 @@ invariant_of-self c =
     let none = ap (λ (ps : List ℕ). number_in ps c.args.page) c.has_room.ensures.same.pages
     ∙ not_some (number_in c.args.self.now.pages c.args.page) c.requires in
     let len : vec_len c.add_values.new.values ≡ vec_len c.has_room.new.self.values + 512 = omega (arith, c.add_values.ensures.len) in
-    let P : Vec Entry Global → Type 0 = λ v. Placed (bases c.add.new.self) v.items in
+    let P : List Entry → Type 0 = Placed (bases c.add.new.self) in
     record {
       counted = counted_then c.args.self.now c.has_room.new.self c.has_room.ensures.same c.add.new.self c.args.page c.in-Ok.ensures.added none (vec_len c.add_values.new.values) len;
       paged = paged_then c.args.self.now c.has_room.new.self c.has_room.ensures.same c.add.new.self c.args.page c.in-Ok.ensures.added none (pages_in c.add_page.new.self) c.add_page.ensures.pages;

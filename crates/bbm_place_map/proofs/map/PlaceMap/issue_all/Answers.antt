@@ -1,4 +1,4 @@
-use Rattle.bbm_place_map.proofs.Common.{refl, sym, ◌∙◌, Keeps, NotesAt}
+use Rattle.bbm_place_map.proofs.Common.{refl, Keeps, NotesAt}
 use Rattle.bbm_place_map.proofs.Issued.{fits_each, noted_by_number, only_kept, room_only, room_same}
 use Rattle.bbm_place_map.proofs.Keeping.{each_then}
 use Rattle.bbm_place_map.proofs.Made.{issuing}

@@ -1,7 +1,7 @@
 use Rattle.bbm_place_map.proofs.Common.{arith, nil_from_length, subst, Published, state_from, Entry, Complete, marks_of}
 use Rattle.bbm_place_map.proofs.Completed.{empty_place}
 use Rattle.bbm_place_map.proofs.Common.{ℕ, ◌∙◌, refl, ap, sym, bases, index_of, unwrap_or, option_map, None}
-use Rattle.bbm_place_map.proofs.Common.{place_entry, at_index, entry_at}
+use Rattle.bbm_place_map.proofs.Common.{place_entry, at_index, entry_at, entries_in}
 use Rattle.bbm_place_map.proofs.Common.{slice_get, Option, Publish, Advances, Publishes}
 use Rattle.bbm_place_map.proofs.Clearing.{fits_seated}
 use Rattle.bbm_place_map.proofs.Made.{barrier}
@@ -36,8 +36,8 @@ returns-clause-pends c = λ q a.
 pub returns-clause-same : goal.returns-clause-same
 unfolding pages_of restless_in restless_place value_at
 returns-clause-same c =
-    let old = c.args.self.now.broken.entries.list.items in
-    let new = c.visit.new.self.entries.list.items in
+    let old = (entries_in c.args.self.now.broken) in
+    let new = (entries_in c.visit.new.self) in
     let seats = c.visit.ensures.order in
     record {
       values = λ a. refl;
@@ -54,7 +54,7 @@ unfolding marks_at
 returns-then-len-eq0-clause-published c = λ live a.
     let by = barrier c.args.issuer c.args.dsb c.args.n Complete in
     let broken = c.args.self.now.broken in
-    let none = nil_from_length broken.entries.list.items (omega (arith, c.len.ensures, c.if-len-eq0.true)) in
+    let none = nil_from_length (entries_in broken) (omega (arith, c.len.ensures, c.if-len-eq0.true)) in
     let P : Option Entry → Type 0 = λ o. Published (state_from live (marks_of o)) by.issuer by.dsb by.n (state_from live (marks_of o)) in
     subst P (sym (empty_place broken none (index_of (bases c.args.self.now.pages) a)))
     (whole by live)

@@ -1,6 +1,6 @@
 use Rattle.bbm_place_map.proofs.Bases.{numbered_in}
 use Rattle.bbm_place_map.proofs.Common.{sym, ap, ◌∙◌, vec_len, bases, arith, at_index, None, Some, ℕ, entry_at}
-use Rattle.bbm_place_map.proofs.Common.{marks_of, slice_get_within}
+use Rattle.bbm_place_map.proofs.Common.{marks_of, slice_get_within, entries_in}
 use Rattle.bbm_place_map.proofs.Held.{none_entry, number_seat}
 use Rattle.bbm_place_map.proofs.Places.{index_once}
 use Rattle.bbm_place_map.proofs.Restless.{place_is}
@@ -18,7 +18,7 @@ unfolding IsPosition restless_in restless_place
 returns-clause-some c = λ i is.
     let self = c.args.self.now in
     let e = number_seat self.broken c.value_number-j.result i (sym c.number.ensures ∙ is) in (
-      slice_get_within self.broken.entries.list.items i e.0 e.1,
+      slice_get_within (entries_in self.broken) i e.0 e.1,
       place_is self i e.0 e.1
           ∙ index_once (bases self.pages) (vec_len self.values) (numbered_in self) e.0.place c.args.position.now.place c.value_number-j.result
           (self.placed i e.0 e.1 ∙ ap (λ (n : ℕ). Some n) e.2) c.value_number-j.ensures.index,
