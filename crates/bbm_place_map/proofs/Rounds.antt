@@ -13,7 +13,9 @@ use Rattle.bbm_place_map.proofs.Positions.{entries_changed, positions_changed, s
 use Rattle.bbm_place_map.proofs.Seats.{by_entry, seat_of, the_cell}
 use Rattle.bbm_place_map.proofs.Resting.{stays_kept}
 use Rattle.bbm_place_map.proofs.Doing.{does_again, does_at, does_none, lost_here, lost_stays, none_lost}
+use Rattle.bbm_place_map.proofs.Common.{cases_Bool, ◌||◌}
 use Rattle.std.proofs.lemmas.Bool.{false_from_ne_true}
+use mathlib.Core.Bool.{or-false, or-true}
 
 pub seats_by : (effect : Effect) (old new : List Entry) → length new ≡ length old → ((m : ℕ) → position_at new m ≡ position_at old m)
     → KeepsSeats effect old new
@@ -90,14 +92,14 @@ module _ (effect : Effect) (by : Barrier) (start mid new : ℕ → Option Entry)
   each_more : (j : ℕ) → MayDo effect by (start j) (new j)
   each_more j = visited (MayDo effect by) (inr (visited_more m (λ other. absurd (other refl)))) j (λ _. round.each j)
 
-  pub rounded_lost : (answer : Bool) → answer ≡ loses_table (marks_of (mid m)) (marks_of (new m)) → answer ≡ true → Rounded effect by start new true
+  rounded_lost : (answer : Bool) → answer ≡ loses_table (marks_of (mid m)) (marks_of (new m)) → answer ≡ true → Rounded effect by start new true
   rounded_lost answer tells is = record {
     each = each_more;
     found = λ _. (m, lost_here effect by (start m) (mid m) (new m) (round.each m) (sym tells ∙ is));
     none = λ h. absurd (false≢true (sym h));
   }
 
-  pub rounded_on : (answer : Bool) → answer ≡ loses_table (marks_of (mid m)) (marks_of (new m)) → answer ≡ false → Rounded effect by start new lost
+  rounded_on : (answer : Bool) → answer ≡ loses_table (marks_of (mid m)) (marks_of (new m)) → answer ≡ false → Rounded effect by start new lost
   rounded_on answer tells kept = record {
     each = each_more;
     found = λ h.
@@ -113,6 +115,14 @@ module _ (effect : Effect) (by : Barrier) (start mid new : ℕ → Option Entry)
         visited (λ o p. loses_table (marks_of o) (marks_of p) ≡ false)
         (none_lost effect by (start m) (mid m) (new m) (round.each m) here (round.none h m) (sym tells ∙ kept)) j (λ _. round.none h j);
   }
+
+  pub rounded_more : (answer : Bool) → answer ≡ loses_table (marks_of (mid m)) (marks_of (new m)) → Rounded effect by start new (lost || answer)
+  rounded_more answer tells =
+      let R : Bool → Type 0 = Rounded effect by start new in
+      elim (cases_Bool answer) [
+        | inl is ↦ subst R (sym (ap (λ (b : Bool). lost || b) is ∙ or-true lost)) (rounded_lost answer tells is)
+        | inr off ↦ subst R (sym (ap (λ (b : Bool). lost || b) off ∙ or-false lost)) (rounded_on answer tells off)
+      ]
 
 -- the list has every cell at whose place something changes
 module _ (effect : Effect) (by : Barrier) (list : List ℕ) (start new : ℕ → Option Entry)

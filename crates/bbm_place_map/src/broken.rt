@@ -20,7 +20,7 @@ use crate::entries::{Entries, put_slot};
 use crate::entry::Entry;
 use crate::issue::{make_room_at, note_entry};
 use crate::lane::Lane;
-use crate::orders::{Barrier, Effect, Issuing};
+use crate::orders::{Barrier, Issuing};
 use crate::read::{self, VALUES};
 use crate::work::{self, Work};
 use crate::{visit, write};
@@ -222,24 +222,7 @@ impl BrokenPlaces {
             return false;
         }
         work::begin(&mut self.work, barrier.n, self.entries.list.len());
-        match barrier.effect {
-            Effect::Publish(_heard) => visit::visit(
-                &mut self.entries,
-                &mut self.work.unpublished,
-                true,
-                barrier,
-            ),
-            Effect::Complete => {
-                let lost = visit::visit(
-                    &mut self.entries,
-                    &mut self.work.waiting,
-                    self.work.settled,
-                    barrier,
-                );
-                self.work.settled = true;
-                lost
-            }
-        }
+        visit::visit(&mut self.entries, &mut self.work, barrier)
     }
 
     /// Makes room at an entry for what waits for the answers of a lane. `NoMemory` where there is none.

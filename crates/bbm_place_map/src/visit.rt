@@ -9,13 +9,13 @@ ghost use Rattle.bbm_place_map.specs.Dsbs.{VisitsAll, VisitsAt, VisitsCell};
 ghost use Rattle.bbm_place_map.specs.Each.{Does, Publishes, is_table as spec_is_table};
 ghost use Rattle.bbm_place_map.specs.Entries.{entry_in, no_pends, pends_in, position};
 ghost use Rattle.bbm_place_map.specs.Sound.{SameSize};
-ghost use Rattle.bbm_place_map.specs.Works.{Holds, HoldsFor, IsTold, RestsAt, Stays};
+ghost use Rattle.bbm_place_map.specs.Works.{Holds, HoldsFor, IsTold, Listed, RestsAt, Stays};
 ghost use Rattle.bbm_place_map.specs.declared.entry.Entry.{Entry as TheEntry};
 
 use crate::entries::Entries;
 use crate::entry::{Entry, is_quiet_for, take_answered};
 use crate::orders::{Barrier, Effect};
-use crate::work::{WorkList, add, part, pass_local, restart};
+use crate::work::{Work, WorkList, add, part, pass_local, restart};
 use bbm_barriers::{completes_local, is_non};
 use bbm_descriptor::Core;
 use bbm_entry_state::{Marks, law_completes};
@@ -107,9 +107,7 @@ fn visit_all(entries: &mut Entries, barrier: &Barrier) -> bool
     let mut k = entries.list.len();
     while k > 0 {
         k -= 1;
-        if visit_at(entries, k, barrier) {
-            lost = true;
-        }
+        lost |= visit_at(entries, k, barrier);
     }
     lost
 }
@@ -136,9 +134,7 @@ fn visit_cells(entries: &mut Entries, list: &[u32], barrier: &Barrier) -> bool
 {
     let mut lost = false;
     for i in 0..list.len() {
-        if visit_cell(entries, list[list.len() - 1 - i], barrier) {
-            lost = true;
-        }
+        lost |= visit_cell(entries, list[list.len() - 1 - i], barrier);
     }
     lost
 }
@@ -246,7 +242,7 @@ fn visit_by(entries: &mut Entries, list: &mut WorkList, settled: bool, barrier: 
 /// PE leaves. Whether one over a table left. Where it is settled that no other place waits to leave, and the issuer's
 /// list has all entries at which there is something to do, only these are visited.
 #[inline(always)]
-pub fn visit(
+fn visit_for(
     entries: &mut Entries,
     lists: &mut Vec<WorkList>,
     settled: bool,
@@ -267,5 +263,25 @@ pub fn visit(
         visit_by(entries, &mut lists[q], settled, barrier)
     } else {
         visit_all(entries, barrier)
+    }
+}
+
+/// A DSB, of a log with as many PEs as the lists know of, published its issuer's writes, or answered its TLBIs, at each
+/// entry. One whose place is cleansed at every PE leaves. Whether one over a table left.
+#[inline(always)]
+pub fn visit(entries: &mut Entries, work: &mut Work, barrier: &Barrier) -> bool
+    requires has { HasEffect barrier.now.effect barrier.now }
+    requires pes { work.old.pes ≡ barrier.now.n }
+    requires listed { Listed work.old entries.old.cells.items entries.old.list.items }
+    ensures visited { VisitsAll barrier.now entries.old entries.new result }
+    ensures listed { Listed work.new entries.new.cells.items entries.new.list.items }
+{
+    match barrier.effect {
+        Effect::Publish(_heard) => visit_for(entries, &mut work.unpublished, true, barrier),
+        Effect::Complete => {
+            let lost = visit_for(entries, &mut work.waiting, work.settled, barrier);
+            work.settled = true;
+            lost
+        }
     }
 }

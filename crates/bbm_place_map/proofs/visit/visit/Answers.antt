@@ -1,25 +1,32 @@
-use Rattle.bbm_place_map.proofs.Common.{arith, inl, sym, ◌∙◌, length, ◌≤◌, slice_get_past, none-some, either}
-use Rattle.bbm_place_map.proofs.Holding.{set_there, set_others, read_for}
+use Rattle.bbm_place_map.proofs.Completed.{completed_listed, open_completed, open_published, published_listed}
+use Rattle.bbm_place_map.proofs.Completed.{settled_completed, settled_published}
 use Rattle.bbm_place_map.proofs.visit.visit.Goals as goal
 
-pub visit_by-requires-clause-known : goal.visit_by-requires-clause-known
-visit_by-requires-clause-known c = λ wide j.
-    either (c.requires.known wide j)
-    (read_for c.args.lists.now.items c.get-q.result c.args.barrier.now.issuer c.index_mut.result.now (omega arith) c.get-q.ensures.value
-    c.index_mut.ensures.value wide j) (λ known. known)
+pub visit_for-requires-clause-known : goal.visit_for-requires-clause-known
+visit_for-requires-clause-known c =
+    open_published c.args.work.now c.args.barrier.now c.args.entries.now c.requires.pes c.requires.listed c.in-Publish._heard c.in-Publish.is
+    c.requires.has
 
-pub returns-then-q-len-clause-known : goal.returns-then-q-len-clause-known
-returns-then-q-len-clause-known c = λ wide j.
-    either (c.visit_by.ensures.known wide j)
-    (set_there c.args.lists.now.items c.get-q.result c.visit_by.new.list (omega arith) c.args.barrier.now.issuer c.get-q.ensures.value wide j)
-    (λ known. known)
+pub visit_for-requires-clause-settled : goal.visit_for-requires-clause-settled
+visit_for-requires-clause-settled c = λ _.
+    settled_published c.args.work.now c.args.barrier.now c.args.entries.now c.requires.pes c.requires.listed c.in-Publish._heard c.in-Publish.is
 
-pub returns-then-q-len-clause-kept_lists : goal.returns-then-q-len-clause-kept_lists
-returns-then-q-len-clause-kept_lists c = λ wide q j other.
-    set_others c.args.lists.now.items c.get-q.result c.visit_by.new.list (omega arith) wide q (λ same. other (same ∙ c.get-q.ensures.value)) j
+pub visit_for-lost-requires-clause-known : goal.visit_for-lost-requires-clause-known
+visit_for-lost-requires-clause-known c =
+    open_completed c.args.work.now c.args.barrier.now c.args.entries.now c.requires.pes c.requires.listed c.in-Complete.is
 
-pub returns-else-q-len-clause-known : goal.returns-else-q-len-clause-known
-returns-else-q-len-clause-known c = λ wide j. inl (λ list is.
-    let value = c.get-q.ensures.value in
-    let past : length c.args.lists.now.items ≤ c.args.barrier.now.issuer = omega arith in
-    absurd (none-some list (sym (slice_get_past c.args.lists.now.items c.args.barrier.now.issuer past) ∙ is)))
+pub visit_for-lost-requires-clause-settled : goal.visit_for-lost-requires-clause-settled
+visit_for-lost-requires-clause-settled c =
+    settled_completed c.args.work.now c.args.barrier.now c.args.entries.now c.requires.pes c.requires.listed c.in-Complete.is
+
+pub returns-in-Publish-clause-listed : goal.returns-in-Publish-clause-listed
+returns-in-Publish-clause-listed c =
+    let e = c.visit_for.ensures in
+    published_listed c.args.work.now c.args.barrier.now c.args.entries.now c.requires.pes c.requires.listed c.visit_for.new.entries
+    c.visit_for.new.lists e.visited.each e.known c.in-Publish._heard c.in-Publish.is e.kept_lists
+
+pub returns-in-Complete-clause-listed : goal.returns-in-Complete-clause-listed
+returns-in-Complete-clause-listed c =
+    let e = c.visit_for-lost.ensures in
+    completed_listed c.args.work.now c.args.barrier.now c.args.entries.now c.requires.pes c.requires.listed c.visit_for-lost.new.entries
+    c.visit_for-lost.new.lists e.visited.each e.known c.in-Complete.is e.kept_lists

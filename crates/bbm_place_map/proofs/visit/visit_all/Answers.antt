@@ -1,7 +1,7 @@
 use Rattle.bbm_place_map.proofs.Common.{List, Some, ap, arith, length, ℕ, ◌-◌, ◌<◌, ◌≡◌, ◌≤◌, option_map, cell_at}
 use Rattle.bbm_place_map.proofs.Common.{entry_in, Entry}
 use Rattle.bbm_place_map.proofs.Restless.{entry_there}
-use Rattle.bbm_place_map.proofs.Rounds.{no_more, no_visit, past_visited, rounded_lost, rounded_none, rounded_on}
+use Rattle.bbm_place_map.proofs.Rounds.{no_more, no_visit, past_visited, rounded_more, rounded_none}
 use Rattle.bbm_place_map.proofs.Rounds.{visit_then, visited_more}
 use Rattle.bbm_place_map.proofs.visit.visit_all.Goals as goal
 
@@ -19,44 +19,23 @@ at entries k some short =
     let e = entry_there entries (k - 1) (omega arith) in
     (e.0.cell, ap (option_map (λ (x : Entry). x.cell)) e.1)
 
-pub loop-k-preserved-then-visit_at : goal.loop-k-preserved-then-visit_at
-loop-k-preserved-then-visit_at c =
-    let inv = c.loop-k.invariant in
-    let ens = c.visit_at.ensures in
-    let by = c.args.barrier.now in
-    let k = c.loop-k.k in
-    let j = at c.loop-k.entries.list.items k (omega arith) inv.short in
-    let start = entry_in c.args.entries.now.cells.items c.args.entries.now.list.items in
-    let mid = entry_in c.loop-k.entries.cells.items c.loop-k.entries.list.items in
-    let new = entry_in c.visit_at.new.entries.cells.items c.visit_at.new.entries.list.items in
-    let others = λ (i : ℕ). ens.others i j.0 j.1 in
-    record {
-      visited = visit_then inv.visited ens.visited;
-      short = omega (arith, ens.short);
-      round = rounded_lost by.effect by start mid new j.0 c.loop-k.lost inv.round (ens.here j.0 j.1) others c.visit_at.result (ens.answer j.0 j.1) c.if-visit_at.true;
-      done = λ i h.
-          visited_more by.effect by start mid new j.0 c.loop-k.lost inv.round (ens.here j.0 j.1) others i
-          (λ other. inv.done i (no_more c.loop-k.entries.cells.items c.visit_at.new.entries.cells.items c.loop-k.entries.list.items c.visit_at.new.entries.list.items
-          k (k - 1) j.0 (omega arith) c.loop-k.entries.linked c.visit_at.new.entries.linked ens.front j.1 i other h));
-    }
-
 pub loop-k-preserved : goal.loop-k-preserved
 loop-k-preserved c =
     let inv = c.loop-k.invariant in
-    let ens = c.visit_at.ensures in
+    let ens = c.visit_at-lost.ensures in
     let by = c.args.barrier.now in
     let k = c.loop-k.k in
     let j = at c.loop-k.entries.list.items k (omega arith) inv.short in
     let start = entry_in c.args.entries.now.cells.items c.args.entries.now.list.items in
     let mid = entry_in c.loop-k.entries.cells.items c.loop-k.entries.list.items in
-    let new = entry_in c.visit_at.new.entries.cells.items c.visit_at.new.entries.list.items in
+    let new = entry_in c.visit_at-lost.new.entries.cells.items c.visit_at-lost.new.entries.list.items in
     let others = λ (i : ℕ). ens.others i j.0 j.1 in
     record {
       visited = visit_then inv.visited ens.visited;
       short = omega (arith, ens.short);
-      round = rounded_on by.effect by start mid new j.0 c.loop-k.lost inv.round (ens.here j.0 j.1) others c.visit_at.result (ens.answer j.0 j.1) c.if-visit_at.false;
+      round = rounded_more by.effect by start mid new j.0 c.loop-k.lost inv.round (ens.here j.0 j.1) others c.visit_at-lost.result (ens.answer j.0 j.1);
       done = λ i h.
           visited_more by.effect by start mid new j.0 c.loop-k.lost inv.round (ens.here j.0 j.1) others i
-          (λ other. inv.done i (no_more c.loop-k.entries.cells.items c.visit_at.new.entries.cells.items c.loop-k.entries.list.items c.visit_at.new.entries.list.items
-          k (k - 1) j.0 (omega arith) c.loop-k.entries.linked c.visit_at.new.entries.linked ens.front j.1 i other h));
+          (λ other. inv.done i (no_more c.loop-k.entries.cells.items c.visit_at-lost.new.entries.cells.items c.loop-k.entries.list.items c.visit_at-lost.new.entries.list.items
+          k (k - 1) j.0 (omega arith) c.loop-k.entries.linked c.visit_at-lost.new.entries.linked ens.front j.1 i other h));
     }

@@ -1,19 +1,9 @@
-use Rattle.bbm_place_map.proofs.Common.{◌≡◌, ◌-◌, ℕ, arith, subst, sym, length, slice_index, Option, Does}
-use Rattle.bbm_place_map.proofs.Common.{entry_in, Entry, ap, ◌≢◌}
-use Rattle.bbm_place_map.proofs.Rounds.{Rounded, all_visited, no_visit, rounded_lost, rounded_none, rounded_on}
+use Rattle.bbm_place_map.proofs.Common.{◌≡◌, ◌-◌, ℕ, arith, subst, length, slice_index, Does}
+use Rattle.bbm_place_map.proofs.Common.{entry_in, ap, ◌≢◌}
+use Rattle.bbm_place_map.proofs.Rounds.{all_visited, no_visit, rounded_more, rounded_none}
 use Rattle.bbm_place_map.proofs.Rounds.{visit_then, visited_more}
 use Rattle.bbm_place_map.proofs.visit.visit_cells.Invariants.{from_end}
-use Rattle.bbm_place_map.proofs.visit.visit_cells.Goals.{then-visit_cell, else-visit_cell}
 use Rattle.bbm_place_map.proofs.visit.visit_cells.Goals as goal
-
-abbrev start : goal.Joined-visit_cell → ℕ → Option Entry
-start c = entry_in c.args.entries.now.cells.items c.args.entries.now.list.items
-
-abbrev mid : goal.Joined-visit_cell → ℕ → Option Entry
-mid c = entry_in c.loop-i.entries.cells.items c.loop-i.entries.list.items
-
-abbrev new : goal.Joined-visit_cell → ℕ → Option Entry
-new c = entry_in c.visit_cell.new.entries.cells.items c.visit_cell.new.entries.list.items
 
 pub loop-i-init : goal.loop-i-init
 loop-i-init c = record {
@@ -27,23 +17,17 @@ loop-i-preserved c =
     let by = c.args.barrier.now in
     let list = c.args.list.now in
     let m = from_end list c.loop-i.i in
-    let ens = c.visit_cell.ensures in
+    let ens = c.visit_cell-lost.ensures in
     let inv = c.loop-i.invariant in
-    let lost = c.loop-i.lost in
+    let start = entry_in c.args.entries.now.cells.items c.args.entries.now.list.items in
+    let mid = entry_in c.loop-i.entries.cells.items c.loop-i.entries.list.items in
+    let new = entry_in c.visit_cell-lost.new.entries.cells.items c.visit_cell-lost.new.entries.list.items in
     record {
       visited = visit_then inv.visited ens.visited;
       here = λ i below.
-          visited_more by.effect by (start c) (mid c) (new c) m lost inv.round ens.here ens.others (from_end list i)
+          visited_more by.effect by start mid new m c.loop-i.lost inv.round ens.here ens.others (from_end list i)
           (λ other. inv.here i (let apart : i ≢ c.loop-i.i = λ same. other (ap (from_end list) same) in omega arith));
-      round =
-          elim c.if-visit_cell.branch [
-            | then-visit_cell w ↦
-                subst (Rounded by.effect by (start c) (new c)) (sym w.lost-is)
-                (rounded_lost by.effect by (start c) (mid c) (new c) m lost inv.round ens.here ens.others c.visit_cell.result ens.answer w.if-visit_cell.true)
-            | else-visit_cell w ↦
-                subst (Rounded by.effect by (start c) (new c)) (sym w.lost-is)
-                (rounded_on by.effect by (start c) (mid c) (new c) m lost inv.round ens.here ens.others c.visit_cell.result ens.answer w.if-visit_cell.false)
-          ];
+      round = rounded_more by.effect by start mid new m c.loop-i.lost inv.round ens.here ens.others c.visit_cell-lost.result ens.answer;
     }
 
 pub returns : goal.returns
