@@ -4,15 +4,17 @@ use Rattle.bbm_place_map.proofs.Common.{nat_eq, if◌then◌else◌, inr, subst}
 use Rattle.bbm_place_map.proofs.Common.{at_index, index_of, none-some, position, BrokenPlaces, ChangesOne, EachAdvances}
 use Rattle.bbm_place_map.proofs.Common.{Entries, Entry, entries_in}
 use Rattle.bbm_place_map.proofs.Common.{Advances, AreSeated, IsKept, Issuing, Keeps, KeepsOthers, Numbered, SameSeats}
-use Rattle.bbm_place_map.proofs.Common.{Vec, Global, Waits, Work, WorkList}
+use Rattle.bbm_place_map.proofs.Common.{Vec, Global, Waits, Work, WorkList, arith, length, ◌+◌, ◌<◌, ◌≤◌}
 use Rattle.bbm_place_map.proofs.Common.{entry_number, number_at, pages_in}
 use Rattle.bbm_place_map.specs.PlaceNotes.{OnlyNotes}
 use Rattle.bbm_place_map.specs.Works.{Listed}
-use Rattle.bbm_place_map.proofs.Advancing.{advance_then, one_advances, position_kept}
+use Rattle.bbm_place_map.proofs.Advancing.{advance_then, all_done, done_more, one_advances, position_kept, rest_more}
 use Rattle.bbm_place_map.proofs.Held.{number_back, number_seat}
 use Rattle.bbm_place_map.proofs.Listing.{listed_noted, listed_roomed}
+use Rattle.bbm_place_map.proofs.Noting.{gets_same}
 use Rattle.bbm_place_map.proofs.Places.{index_once}
 use Rattle.bbm_place_map.proofs.Positions.{seats_by, seats_kept}
+use Rattle.bbm_place_map.proofs.Restless.{entry_there}
 use Rattle.bbm_place_map.proofs.Seats.{by_index}
 
 pub seats_all : (old : BrokenPlaces) → SameSeats old old
@@ -40,6 +42,39 @@ one_changed S {old} {new} {k} c e was now others =
       same = c.same;
       each = one_advances S (entries_in old) (entries_in new) k e f.0 was f.1 (now f.0 f.1 f.2) f.3 others;
     }
+
+-- The entries below a number changed each in its place, and no other did.
+pub record ChangedBelow (R : ℕ → Entry → Entry → Type 0) (k : ℕ) (old new : BrokenPlaces) : Type 0 where
+  pub same : SameSeats old new
+  pub done : (m : ℕ) → m < k → Advances (R m) (slice_get (entries_in old) m) (slice_get (entries_in new) m)
+  pub rest : (m : ℕ) → k ≤ m → slice_get (entries_in new) m ≡ slice_get (entries_in old) m
+
+pub below_none : (R : ℕ → Entry → Entry → Type 0) (old : BrokenPlaces) → ChangedBelow R 0 old old
+below_none R old = record { same = seats_all old; done = λ m below. absurd (omega (arith, below)); rest = λ m above. refl }
+
+-- so does the next one
+pub below_more : {R : ℕ → Entry → Entry → Type 0} {Q : Entry → Entry → Type 0} {k : ℕ} {old mid new : BrokenPlaces} → ChangedBelow R k old mid
+    → k < length (entries_in old) → ChangesOne k Q mid new → ((e f : Entry) → Q e f → R k e f) → ChangedBelow R (k + 1) old new
+below_more {R} {Q} {k} {old} {mid} {new} below within c by =
+    let e = entry_there (entries_in mid) k (omega (arith, within, below.same.len)) in
+    let f = c.entry e.0 e.1 in
+    record {
+      same = seats_more below.same c.same;
+      done = done_more R (entries_in old) (entries_in mid) (entries_in new) k e.0 f.0 below.done below.rest e.1 f.1 (by e.0 f.0 f.2) f.3;
+      rest = rest_more R (entries_in old) (entries_in mid) (entries_in new) k e.0 f.0 below.done below.rest e.1 f.1 (by e.0 f.0 f.2) f.3;
+    }
+
+pub below_kept : {R : ℕ → Entry → Entry → Type 0} {k : ℕ} {old mid : BrokenPlaces} → ChangedBelow R k old mid → k < length (entries_in old)
+    → ((e : Entry) → R k e e) → ChangedBelow R (k + 1) old mid
+below_kept {R} {k} {old} {mid} below within stays =
+    let none : ChangesOne k (R k) mid mid
+    = record { same = seats_all mid; entry = λ e is. (e, refl, stays e, gets_same (entries_in mid) k e is) } in
+    below_more below within none (λ e f h. h)
+
+pub below_all : {R : ℕ → Entry → Entry → Type 0} {k : ℕ} {old new : BrokenPlaces} → ChangedBelow R k old new → length (entries_in old) ≤ k
+    → EachAdvances R old new
+below_all {R} {k} {old} {new} below whole =
+    record { same = below.same; each = all_done R (entries_in old) (entries_in new) k whole below.done below.rest }
 
 pub moved : (R : ℕ → Entry → Entry → Type 0) (old new : List Entry) → ((m : ℕ) → Advances (R m) (slice_get old m) (slice_get new m)) → AreSeated old new
 moved R old new each = seats_kept old new (λ m. position_kept (R m) (slice_get old m) (slice_get new m) (each m))
