@@ -39,6 +39,12 @@ pub self_advances : (S : Entry → Entry → Type 0) (o : Option Entry) → ((x 
 self_advances S None same = tt
 self_advances S (Some x) same = (refl, same x refl)
 
+-- where an entry is after there was one before
+pub advanced_from : (R : Entry → Entry → Type 0) (o : Option Entry) (f : Entry) → Advances R o (Some f)
+    → (e : Entry) × (o ≡ Some e) × (position f ≡ position e) × R e f
+advanced_from R None f h = absurd h
+advanced_from R (Some e) f h = (e, refl, h.0, h.1)
+
 -- of a cell
 pub of_cell : (R : Entry → Entry → Type 0) (old new : List Entry) → ((k : ℕ) → Advances R (slice_get old k) (slice_get new k))
     → (s : Option ℕ) → Advances R (entry_of old s) (entry_of new s)

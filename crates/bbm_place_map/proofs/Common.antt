@@ -55,7 +55,7 @@ pub use Rattle.bbm_place_map.specs.ByNumber.{SameEntries, VisitsPlaces, entries_
 pub use Rattle.bbm_place_map.specs.ByNumber.{entry_number, number_at, pages_in}
 pub use Rattle.bbm_place_map.specs.declared.broken.BrokenPlaces.{BrokenPlaces}
 pub use Rattle.bbm_place_map.specs.PlaceNotes.{Keeps, KeepsOthers, NotesAmong, NotesAs, NotesAt}
-pub use Rattle.bbm_place_map.specs.PlaceNotes.{NotesFound, NotesOne, is_cover}
+pub use Rattle.bbm_place_map.specs.PlaceNotes.{AtPlace, NotesFound, is_cover}
 pub use Rattle.bbm_place_map.specs.Sound.{Linked, Numbered, Placed, SameSize, at_index, bases, index_of}
 pub use Rattle.bbm_place_map.specs.Puts.{AreSeated, ClearsCells, KeepsRoom, MarksCell, StillSound, WasSeated}
 pub use Rattle.bbm_place_map.specs.States.{marks_of_state, state_from}

@@ -1,10 +1,10 @@
 -- The broken places, by the numbers of their values.
 use Rattle.bbm_place_map.proofs.Common.{◌≡◌, ◌≢◌, ℕ, ◌+◌, ◌/◌, ◌%◌, ◌<◌, ◌≤◌, nat_eq, List, Option, Some, None}
 use Rattle.bbm_place_map.proofs.Common.{length, refl, ap, sym, subst}
-use Rattle.bbm_place_map.proofs.Common.{◌∙◌, arith, inl, inr, if◌then◌else◌, slice_get, vec_len, vec_capacity, cases_eq}
+use Rattle.bbm_place_map.proofs.Common.{◌∙◌, arith, inl, inr, if◌then◌else◌, slice_get, vec_len, cases_eq}
 use Rattle.bbm_place_map.proofs.Common.{none-some, option_map, Vec, Global, cell_by, slot_in, entry_of, entry_in}
 use Rattle.bbm_place_map.proofs.Common.{position, Entry}
-use Rattle.bbm_place_map.proofs.Common.{AreSeated, BrokenPlaces, Entries, IsSound, Numbered, StillSound, at_index}
+use Rattle.bbm_place_map.proofs.Common.{BrokenPlaces, Entries, IsSound, Numbered, StillSound, at_index}
 use Rattle.bbm_place_map.proofs.Common.{entry_at, entry_of_cell, number_at}
 use Rattle.bbm_place_map.proofs.Common.{put_here, put_away, either, ◌⊎◌, WasSeated, KeepsRoom}
 use Rattle.bbm_place_map.proofs.Common.{SameSeats, SameSize, entries_in}
@@ -77,14 +77,10 @@ sound_still parts old new room seated sound =
       few = sound.few;
     }
 
-pub sound_moved : (parts : List ℕ) (old new : Entries) → vec_len new.cells ≡ vec_len old.cells → vec_capacity new.cells ≡ vec_capacity old.cells
-    → vec_capacity new.list ≡ vec_capacity old.list → AreSeated old.list.items new.list.items → IsSound parts old → IsSound parts new
-sound_moved parts old new len space room seats sound =
-    sound_still parts old new (record { len = len; space = space; room = room })
-    (seats_by (λ p. cell_by parts p.1 ≡ Some p.2) old.list.items new.list.items seats sound.seated) sound
-
 pub sound_seated : (parts : List ℕ) (old new : Entries) → StillSound old new → IsSound parts old → IsSound parts new
-sound_seated parts old new still = sound_moved parts old new still.room.len still.room.space still.room.room still.seats
+sound_seated parts old new still sound =
+    sound_still parts old new still.room
+    (seats_by (λ p. cell_by parts p.1 ≡ Some p.2) old.list.items new.list.items still.seats sound.seated) sound
 
 pub sound_changed : (parts : List ℕ) (old new : Entries) (k : ℕ) (e f : Entry) → slice_get old.list.items k ≡ Some e → position f ≡ position e
     → ((i : ℕ) → slice_get new.list.items i ≡ (if nat_eq i k then Some f else slice_get old.list.items i)) → new.cells ≡ old.cells

@@ -2,13 +2,13 @@
 use Rattle.bbm_place_map.proofs.Common.{◌≡◌, ◌≢◌, ℕ, ◌*◌, List, Option, Some, None, refl, ap, sym, ◌∙◌, slice_get}
 use Rattle.bbm_place_map.proofs.Common.{nat_eq, if◌then◌else◌, inr, subst}
 use Rattle.bbm_place_map.proofs.Common.{at_index, index_of, none-some, position, BrokenPlaces, ChangesOne, EachAdvances}
-use Rattle.bbm_place_map.proofs.Common.{Entries, Entry, entries_in}
+use Rattle.bbm_place_map.proofs.Common.{AtPlace, Entries, Entry, cases_eq, entries_in, inl, same_Some}
 use Rattle.bbm_place_map.proofs.Common.{Advances, AreSeated, IsKept, Issuing, Keeps, KeepsOthers, Numbered, SameSeats}
 use Rattle.bbm_place_map.proofs.Common.{Vec, Global, Waits, Work, WorkList, arith, length, ◌+◌, ◌<◌, ◌≤◌}
 use Rattle.bbm_place_map.proofs.Common.{entry_number, number_at, pages_in}
 use Rattle.bbm_place_map.specs.PlaceNotes.{OnlyNotes}
 use Rattle.bbm_place_map.specs.Works.{Listed}
-use Rattle.bbm_place_map.proofs.Advancing.{advance_then, all_done, done_more, one_advances, position_kept, rest_more}
+use Rattle.bbm_place_map.proofs.Advancing.{advance_then, all_done, done_more, one_advances, position_kept, rest_more, self_advances}
 use Rattle.bbm_place_map.proofs.Held.{number_back, number_seat}
 use Rattle.bbm_place_map.proofs.Listing.{listed_noted, listed_roomed}
 use Rattle.bbm_place_map.proofs.Noting.{gets_same}
@@ -103,6 +103,33 @@ module _ {base : ℕ → Option ℕ} {broken : BrokenPlaces} (kept : IsKept base
   pub number_of_place : (m : ℕ) (x : Entry) → slice_get (entries_in broken) m ≡ Some x → x.place ≡ place → entry_number base broken place ≡ Some m
   number_of_place m x is same =
       ap (entry_number base broken) (sym same) ∙ ap (at_index None (number_at broken)) (kept.placed m x is) ∙ number_back broken m x is
+
+  -- the entry of a place changed, if it is broken
+  pub place_changed : {R : Entry → Entry → Type 0} {new : BrokenPlaces} (k : ℕ) → entry_number base broken place ≡ Some k
+      → ChangesOne k R broken new → EachAdvances (λ _. AtPlace place R) broken new
+  place_changed {R} {new} k at changes =
+      let e = place_of_number k at in
+      one_changed (AtPlace place R) changes e.0 e.1 (λ f _ h. (λ here. h, λ other. absurd (other e.2)))
+      (λ m x other is. (λ here. absurd (other (same_Some m k (sym (number_of_place m x is here) ∙ at))), λ apart. refl))
+
+  pub place_none : (R : Entry → Entry → Type 0) → entry_number base broken place ≡ None → EachAdvances (λ _. AtPlace place R) broken broken
+  place_none R none = record {
+    same = seats_all broken;
+    each = λ m.
+        self_advances (AtPlace place R) (slice_get (entries_in broken) m)
+        (λ x is. (λ here. absurd (none-some m (sym none ∙ number_of_place m x is here)), λ apart. refl));
+  }
+
+-- more room at one place
+pub keeps_then : {X : Entry → Type 0} {place : ℕ} {old mid new : BrokenPlaces} → EachAdvances (λ _. Keeps) old mid
+    → EachAdvances (λ _. AtPlace place (λ e f. Keeps e f × X f)) mid new → EachAdvances (λ _. Keeps) old new
+keeps_then {X} {place} a b =
+    each_then (λ _. Keeps) a b (λ m e f g seated h h'.
+    let kept : Keeps f g = elim (cases_eq f.place place) [
+      | inl here ↦ (h'.0 here).0
+      | inr other ↦ (ap (λ (x : Entry). x.marks) (h'.1 other), ap (λ (x : Entry). x.pends.items) (h'.1 other))
+    ] in
+    (kept.0 ∙ h.0, kept.1 ∙ h.1))
 
 -- what is left to do where room was made at an entry, or a TLBI noted
 module _ (old new : Entries) (k : ℕ) (e f : Entry) (was : slice_get old.list.items k ≡ Some e) (seated : position f ≡ position e)

@@ -1,7 +1,7 @@
 -- Where a TLBI is noted at the places of a few items, and at no others.
 use Rattle.bbm_place_map.proofs.Common.{◌≡◌, ℕ, true, false, nat_eq, List, [], ◌∷◌, ◌++◌, Option, Some, None, ap}
 use Rattle.bbm_place_map.proofs.Common.{sym, subst, ◌∙◌, inl, inr, cases_Bool, eq-eqb, eqb-true, false≢true, Cover}
-use Rattle.bbm_place_map.proofs.Common.{Advances, position, cover_in, is_found, NotesAs, NotesOne, NotesFound}
+use Rattle.bbm_place_map.proofs.Common.{Advances, position, cover_in, is_found, NotesAs, AtPlace, NotesFound}
 use Rattle.bbm_place_map.proofs.Common.{Entry, Found, Issuing}
 use Rattle.bbm_place_map.proofs.Finding.{cover_here, cover_off, cover_old, found_here, found_off}
 
@@ -12,7 +12,7 @@ module _ (xs : List Found) (x : Found) (by : Issuing) where
 
   -- one that counts
   pub note_step : is_found xs x.place ≡ false → (e f g : Entry) → position f ≡ position e → NotesFound xs by e f
-      → NotesOne x.place x.cover by f g → NotesFound (xs ++ x ∷ []) by e g
+      → AtPlace x.place (NotesAs x.cover by) f g → NotesFound (xs ++ x ∷ []) by e g
   note_step fresh e f g seated before now =
       let place : f.place ≡ e.place = ap (λ (s : ℕ × ℕ × ℕ). s.0) seated in
       elim (cases_Bool (nat_eq x.place e.place)) [

@@ -29,10 +29,6 @@ entry_at broken j = at_index None (entry_of_cell broken.entries) (cell_by broken
 abbrev pub pages_in : BrokenPlaces → ℕ
 pages_in broken = vec_len broken.parts
 
--- a place has this cell
-abbrev pub IsAt : BrokenPlaces → ℕ → ℕ → Type 0
-IsAt broken j cell = cell_by broken.parts.items j ≡ Some cell
-
 -- There is room for the places of one more page.
 pub record HasPageRoom (broken : BrokenPlaces) : Type 0 where
   pub parts : vec_len broken.parts + 1 ≤ vec_capacity broken.parts

@@ -54,9 +54,9 @@ NotesAt covers by m e f =
     (f.marks ≡ e.marks) × ((q : ℕ) → q ≢ by.issuer → pends_in f.pends.items q ≡ pends_in e.pends.items q)
     × ((c : Cover) → slice_get covers m ≡ Some c → NotesAs c by e f)
 
--- the TLBI is noted at one place, and no other entry changes
-abbrev pub NotesOne : ℕ → Cover → Issuing → Entry → Entry → Type 0
-NotesOne place cover by e f = (e.place ≡ place → NotesAs cover by e f) × (e.place ≢ place → f ≡ e)
+-- the entry of one place changes as the relation says, and no other entry does
+abbrev pub AtPlace : ℕ → (Entry → Entry → Type 0) → Entry → Entry → Type 0
+AtPlace place R e f = (e.place ≡ place → R e f) × (e.place ≢ place → f ≡ e)
 
 -- the TLBI is noted as far as the items cover the place, and an entry whose place isn't among them stays
 abbrev pub NotesFound : List Found → Issuing → Entry → Entry → Type 0

@@ -8,7 +8,7 @@ ghost use Rattle.std.specs.Option.{option_copied};
 ghost use Rattle.bbm_entry_state.specs.EntryCalls.{Written};
 ghost use Rattle.bbm_entry_state.specs.declared.marks.Marks.{Marks as TheMarks};
 ghost use Rattle.bbm_entry_state.specs.declared.state.EntryState.TheVariants as state;
-ghost use Rattle.bbm_place_map.specs.Cells.{in_page, slot_in};
+ghost use Rattle.bbm_place_map.specs.Cells.{cell_by, in_page, slot_in};
 ghost use Rattle.bbm_place_map.specs.Dsbs.{HasEffect};
 ghost use Rattle.bbm_place_map.specs.Entries.{HasRoom, lane_of};
 ghost use Rattle.bbm_place_map.specs.PlaceNotes.{Keeps, NotesAs, is_cover};
@@ -47,7 +47,7 @@ pub struct BrokenPlaces {
 }
 
 impl BrokenPlaces {
-    ghost use Rattle.bbm_place_map.specs.ByNumber.{Breaks, ChangesOne, Clears, HasPageRoom, HoldsSame, IsAt, SameEntries};
+    ghost use Rattle.bbm_place_map.specs.ByNumber.{Breaks, ChangesOne, Clears, HasPageRoom, HoldsSame, SameEntries};
     ghost use Rattle.bbm_place_map.specs.ByNumber.{VisitsPlaces, entries_in, entry_at, number_at, pages_in};
 
     /// No page, and so no broken place. It takes no memory.
@@ -136,7 +136,7 @@ impl BrokenPlaces {
     #[inline(always)]
     fn cell(&mut self, j: usize) -> usize
         requires { j < VALUES * pages_in self.old }
-        ensures cell { IsAt self.new j result }
+        ensures cell { cell_by self.new.parts.items j ≡ Some result }
         ensures same { HoldsSame self.old self.new }
     {
         match read::cell(&self.parts, j) {

@@ -10,7 +10,7 @@ ghost use Rattle.bbm_place_map.specs.Each.{Advances};
 ghost use Rattle.bbm_place_map.specs.Entries.{position, lane_of, pends_in, HasRoom};
 ghost use Rattle.bbm_place_map.specs.Finds.{is_found};
 ghost use Rattle.bbm_place_map.specs.Sound.{SameSize, bases};
-ghost use Rattle.bbm_place_map.specs.PlaceNotes.{IsNoted, Keeps, NotesAs, NotesAt, NotesFound, NotesOne};
+ghost use Rattle.bbm_place_map.specs.PlaceNotes.{AtPlace, IsNoted, Keeps, NotesAs, NotesAt, NotesFound};
 ghost use Rattle.bbm_place_map.specs.PlaceNotes.{OnlyNotes, Readies, is_cover as spec_is_cover};
 ghost use Rattle.bbm_place_map.specs.ByNumber.{EachAdvances, IsKept, entries_in, entry_number};
 ghost use Rattle.bbm_place_map.specs.Works.{IsQuiet, Waits};
@@ -191,11 +191,8 @@ fn make_room_for(
     lane: Lane,
 ) -> Result<(), NoMemory>
     requires { IsKept (bases pages.now) broken.old }
-    ensures each { EachAdvances (λ _. Keeps) broken.old broken.new }
-    ensures ready { OnOk result ((m : ℕ) (e : TheEntry) → slice_get (entries_in broken.new) m ≡ Some e → e.place ≡ item.place
-        → HasRoom e.pends lane) }
-    ensures others { (m : ℕ) (e : TheEntry) → slice_get (entries_in broken.new) m ≡ Some e → e.place ≢ item.place
-        → slice_get (entries_in broken.new) m ≡ slice_get (entries_in broken.old) m }
+    ensures { EachAdvances (λ _. AtPlace item.place (λ e f. Keeps e f × OnOk result (HasRoom f.pends lane)))
+        broken.old broken.new }
 {
     match entry_of(pages, broken, item.place, item.hint) {
         Some(k) => broken.make_room(k as usize, lane),
@@ -227,7 +224,7 @@ fn note_for(pages: &PageNumbers, broken: &mut BrokenPlaces, item: Found, tlbi: &
     requires sound { IsKept (bases pages.now) broken.old }
     requires ready { (m : ℕ) (e : TheEntry) → slice_get (entries_in broken.old) m ≡ Some e → e.place ≡ item.place
         → HasRoom e.pends (lane_of tlbi.now.issuer tlbi.now.broadcast) }
-    ensures { EachAdvances (λ _. NotesOne item.place item.cover tlbi.now) broken.old broken.new }
+    ensures { EachAdvances (λ _. AtPlace item.place (NotesAs item.cover tlbi.now)) broken.old broken.new }
 {
     if let Some(k) = entry_of(pages, broken, item.place, item.hint) {
         broken.note(k as usize, tlbi, item.cover);

@@ -1,9 +1,10 @@
+use Rattle.bbm_place_map.proofs.Common.{Advances, AtPlace, Entry, HasRoom, Some, subst, ℕ, ◌≡◌}
 use Rattle.bbm_place_map.proofs.Common.{nat_eq, ap, sym, ◌∙◌, inl, inr, slice_get, take, List, cases_Bool, eq-eqb}
 use Rattle.bbm_place_map.proofs.Common.{eqb-true, false≢true, is_found, Keeps, Found}
 use Rattle.bbm_place_map.proofs.Common.{refl, entries_in}
-use Rattle.bbm_place_map.proofs.Advancing.{self_advances}
+use Rattle.bbm_place_map.proofs.Advancing.{advanced_from, self_advances}
 use Rattle.bbm_place_map.proofs.Finding.{found_off, take_more}
-use Rattle.bbm_place_map.proofs.Keeping.{each_then, kept_moved, seats_all}
+use Rattle.bbm_place_map.proofs.Keeping.{keeps_then, kept_moved, seats_all}
 use Rattle.bbm_place_map.proofs.issue.make_room_found.Goals as goal
 
 pub make_room_for-requires : goal.make_room_for-requires
@@ -19,17 +20,23 @@ loop-i-init c = record {
 }
 
 pub loop-i-preserved : goal.loop-i-preserved
-loop-i-preserved c = record {
-  each = each_then (λ _. Keeps) c.loop-i.invariant.each c.make_room_for.ensures.each (λ m e f g seated h h'. (h'.0 ∙ h.0, h'.1 ∙ h.1));
-  ready = λ m e is among.
-      let x = c.index-found-i.result in
-      let xs = take c.loop-i.i c.args.found.now in
-      elim (cases_Bool (nat_eq x.place e.place)) [
-        | inl here ↦ c.in_ok-make_room_for.ensures.ready m e is (sym (eqb-true x.place e.place here))
-        | inr off ↦
-            c.loop-i.invariant.ready m e
-            (sym (c.in_ok-make_room_for.ensures.others m e is (λ same. false≢true (sym off ∙ eq-eqb x.place e.place (sym same)))) ∙ is)
-            (sym (found_off xs x e.place off)
-            ∙ sym (ap (λ (ys : List Found). is_found ys e.place) (take_more c.args.found.now c.loop-i.i x c.loop-i-test.true c.index-found-i.is)) ∙ among)
-      ];
-}
+loop-i-preserved c =
+    let x = c.index-found-i.result in
+    let xs = take c.loop-i.i c.args.found.now in
+    let made = c.in_ok-make_room_for.ensures in
+    let mid = entries_in c.loop-i.broken in
+    record {
+      each = keeps_then c.loop-i.invariant.each made;
+      ready = λ m e is among.
+          let R = AtPlace x.place (λ e f. Keeps e f × HasRoom f.pends c.args.lane) in
+          let was = advanced_from R (slice_get mid m) e (subst (Advances R (slice_get mid m)) is (made.each m)) in
+          let place : e.place ≡ was.0.place = ap (λ (p : ℕ × ℕ × ℕ). p.0) was.2 in
+          elim (cases_Bool (nat_eq x.place e.place)) [
+            | inl here ↦ (was.3.0 (sym place ∙ sym (eqb-true x.place e.place here))).1
+            | inr off ↦
+                let same : e ≡ was.0 = was.3.1 (λ at. false≢true (sym off ∙ eq-eqb x.place e.place (sym (place ∙ at)))) in
+                c.loop-i.invariant.ready m e (was.1 ∙ ap (λ (y : Entry). Some y) (sym same))
+                (sym (found_off xs x e.place off)
+                ∙ sym (ap (λ (ys : List Found). is_found ys e.place) (take_more c.args.found.now c.loop-i.i x c.loop-i-test.true c.index-found-i.is)) ∙ among)
+          ];
+    }
