@@ -158,8 +158,8 @@ module _ (broken : BrokenPlaces) (parts cells : List ℕ) (page start : ℕ) (la
       ]
 
 -- a place is broken, once it has a cell
-module _ (old mid : BrokenPlaces) (new : Entries) (j place cell : ℕ) (by : Marks) (at : cell_by mid.parts.items j ≡ Some cell)
-    (same : SameEntries old mid) (e : MarksCell cell j place by mid.entries new) where
+module _ {old mid : BrokenPlaces} {new : Entries} {j place cell : ℕ} {by : Marks} (same : SameEntries old mid)
+    (at : cell_by mid.parts.items j ≡ Some cell) (e : MarksCell cell j place by mid.entries new) where
   pub broken_seats : (k : ℕ) (x : Entry) → slice_get new.list.items k ≡ Some x
       → WasSeated old.entries.list.items x ⊎ ((x.place ≡ place) × (x.index ≡ j))
   broken_seats k x h =

@@ -1,6 +1,7 @@
 -- Entries that change each in its place.
 use Rattle.bbm_place_map.proofs.Common.{◌≡◌, ◌≢◌, ℕ, ◌*◌, List, Option, Some, None, refl, ap, sym, ◌∙◌, slice_get}
 use Rattle.bbm_place_map.proofs.Common.{nat_eq, if◌then◌else◌, inr, subst}
+use Rattle.bbm_place_map.proofs.Common.{Cover, Found, NotesAmong, NotesAt, NotesFound}
 use Rattle.bbm_place_map.proofs.Common.{at_index, index_of, none-some, position, BrokenPlaces, ChangesOne, EachAdvances}
 use Rattle.bbm_place_map.proofs.Common.{AtPlace, Entries, Entry, cases_eq, entries_in, inl, same_Some}
 use Rattle.bbm_place_map.proofs.Common.{Advances, AreSeated, IsKept, Issuing, Keeps, KeepsOthers, Numbered, SameSeats}
@@ -11,7 +12,7 @@ use Rattle.bbm_place_map.specs.Works.{Listed}
 use Rattle.bbm_place_map.proofs.Advancing.{advance_then, all_done, done_more, one_advances, position_kept, rest_more, self_advances}
 use Rattle.bbm_place_map.proofs.Held.{number_back, number_seat}
 use Rattle.bbm_place_map.proofs.Listing.{listed_noted, listed_roomed}
-use Rattle.bbm_place_map.proofs.Noting.{gets_same}
+use Rattle.bbm_place_map.proofs.Noting.{among_over, at_over, gets_same}
 use Rattle.bbm_place_map.proofs.Places.{index_once}
 use Rattle.bbm_place_map.proofs.Positions.{seats_by, seats_kept}
 use Rattle.bbm_place_map.proofs.Restless.{entry_there}
@@ -119,6 +120,15 @@ module _ {base : ℕ → Option ℕ} {broken : BrokenPlaces} (kept : IsKept base
         self_advances (AtPlace place R) (slice_get (entries_in broken) m)
         (λ x is. (λ here. absurd (none-some m (sym none ∙ number_of_place m x is here)), λ apart. refl));
   }
+
+-- room was made before a TLBI was noted
+pub at_after_room : (covers : List Cover) (by : Issuing) {old mid new : BrokenPlaces} → EachAdvances (λ _. Keeps) old mid
+    → EachAdvances (NotesAt covers by) mid new → EachAdvances (NotesAt covers by) old new
+at_after_room covers by a b = each_then (NotesAt covers by) a b (λ m e f g seated. at_over covers by m e f g)
+
+pub among_after_room : (found : List Found) (by : Issuing) {old mid new : BrokenPlaces} → EachAdvances (λ _. Keeps) old mid
+    → EachAdvances (λ _. NotesFound found by) mid new → EachAdvances (λ _. NotesAmong found by) old new
+among_after_room found by a b = each_then (λ _. NotesAmong found by) a b (λ m. among_over found by)
 
 -- more room at one place
 pub keeps_then : {X : Entry → Type 0} {place : ℕ} {old mid new : BrokenPlaces} → EachAdvances (λ _. Keeps) old mid

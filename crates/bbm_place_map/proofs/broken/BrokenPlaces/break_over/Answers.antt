@@ -36,18 +36,14 @@ invariant_of-self c =
       listed =
           listed_fresh mid.work c.note_break.new.work mid.entries.cells.items new.cells.items mid.entries.list.items new.list.items
           i c.args.pe c.broken_by-marks.result n.pes (ap marks_of was) made.writers made.clean n.there n.kept n.waiting n.settled
-          (broken_marks c.args.self.now mid new c.args.j c.args.place i c.broken_by-marks.result c.cell-i.ensures.cell c.cell-i.ensures.same.same e)
-          (broken_pends c.args.self.now mid new c.args.j c.args.place i c.broken_by-marks.result c.cell-i.ensures.cell c.cell-i.ensures.same.same e)
+          (broken_marks c.cell-i.ensures.same.same c.cell-i.ensures.cell e)
+          (broken_pends c.cell-i.ensures.same.same c.cell-i.ensures.cell e)
           mid.listed;
     }
 
 pub returns : goal.returns
 returns c =
-    let old = c.args.self.now in
-    let mid = c.cell-i.new.self in
-    let e = c.link.ensures in
-    let same = c.cell-i.ensures.same.same in
-    let at = c.cell-i.ensures.cell in
+    let cell = c.cell-i.ensures in
     let made = c.broken_by-marks.ensures in (
       c.broken_by-marks.result,
       record {
@@ -59,8 +55,8 @@ returns c =
         clean = made.clean;
       },
       record {
-        pages = c.cell-i.ensures.same.pages;
-        seats = broken_seats old mid c.link.new.self c.args.j c.args.place c.cell-i.result c.broken_by-marks.result at same e;
-        entry = broken_entry old mid c.link.new.self c.args.j c.args.place c.cell-i.result c.broken_by-marks.result at same e;
+        pages = cell.same.pages;
+        seats = broken_seats cell.same.same cell.cell c.link.ensures;
+        entry = broken_entry cell.same.same cell.cell c.link.ensures;
       },
     )

@@ -21,19 +21,16 @@ invariant_of-self c =
       listed =
           listed_broken mid.work c.note_write.new.work mid.entries.cells.items new.cells.items mid.entries.list.items new.list.items
           i c.args.marks c.marks-before.result n.pes c.marks-before.ensures n.told n.kept n.waiting n.settled n.unclean
-          (broken_marks c.args.self.now mid new c.args.j c.args.place i c.args.marks c.cell-i.ensures.cell c.cell-i.ensures.same.same e)
-          (broken_pends c.args.self.now mid new c.args.j c.args.place i c.args.marks c.cell-i.ensures.cell c.cell-i.ensures.same.same e)
+          (broken_marks c.cell-i.ensures.same.same c.cell-i.ensures.cell e)
+          (broken_pends c.cell-i.ensures.same.same c.cell-i.ensures.cell e)
           mid.listed;
     }
 
 pub returns : goal.returns
 returns c =
-    let old = c.args.self.now in
-    let mid = c.cell-i.new.self in
-    let at = c.cell-i.ensures.cell in
-    let same = c.cell-i.ensures.same.same in
+    let cell = c.cell-i.ensures in
     record {
-      pages = c.cell-i.ensures.same.pages;
-      seats = broken_seats old mid c.mark.new.self c.args.j c.args.place c.cell-i.result c.args.marks at same c.mark.ensures;
-      entry = broken_entry old mid c.mark.new.self c.args.j c.args.place c.cell-i.result c.args.marks at same c.mark.ensures;
+      pages = cell.same.pages;
+      seats = broken_seats cell.same.same cell.cell c.mark.ensures;
+      entry = broken_entry cell.same.same cell.cell c.mark.ensures;
     }

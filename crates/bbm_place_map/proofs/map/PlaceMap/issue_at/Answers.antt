@@ -1,10 +1,10 @@
-use Rattle.bbm_place_map.proofs.Common.{ℕ, refl, Keeps, NotesAmong}
+use Rattle.bbm_place_map.proofs.Common.{refl, Keeps, NotesAmong}
 use Rattle.bbm_place_map.proofs.Bases.{is_kept}
 use Rattle.bbm_place_map.proofs.Issued.{fits_each, noted_found, only_kept, room_only, room_pends, room_same}
 use Rattle.bbm_place_map.proofs.Issued.{unnoted_found}
-use Rattle.bbm_place_map.proofs.Keeping.{each_then, kept_moved}
+use Rattle.bbm_place_map.proofs.Keeping.{among_after_room, kept_moved}
 use Rattle.bbm_place_map.proofs.Made.{issuing}
-use Rattle.bbm_place_map.proofs.Noting.{among_over, on_err}
+use Rattle.bbm_place_map.proofs.Noting.{on_err}
 use Rattle.bbm_place_map.specs.Map.{marks_at, pends_at}
 use Rattle.bbm_place_map.proofs.map.PlaceMap.issue_at.Goals as goal
 
@@ -14,16 +14,16 @@ invariant_of-self c = fits_each (λ m. Keeps) c.args.self.now c.make_room_found.
 pub invariant_of-self-2 : goal.invariant_of-self-2
 invariant_of-self-2 c =
     let by = issuing c.args.issuer c.args.reach c.args.broadcast in
-    let R = λ (m : ℕ). NotesAmong c.args.found.now by in
-    fits_each R c.args.self.now c.note_found.new.broken
-    (each_then R c.make_room_found.ensures.each c.note_found.ensures (λ m. among_over c.args.found.now by))
+    let found = c.args.found.now in
+    fits_each (λ _. NotesAmong found by) c.args.self.now c.note_found.new.broken
+    (among_after_room found by c.make_room_found.ensures.each c.note_found.ensures)
 
 pub returns-clause-only : goal.returns-clause-only
 returns-clause-only c =
     let by = issuing c.args.issuer c.args.reach c.args.broadcast in
-    let R = λ (m : ℕ). NotesAmong c.args.found.now by in
-    only_kept R c.args.self.now _ refl refl
-    (each_then R c.make_room_found.ensures.each c.note_found.ensures (λ m. among_over c.args.found.now by))
+    let found = c.args.found.now in
+    only_kept (λ _. NotesAmong found by) c.args.self.now _ refl refl
+    (among_after_room found by c.make_room_found.ensures.each c.note_found.ensures)
     c.args.issuer (λ m x f h. h.0.0) (λ q other m x f h. h.0.1 q other)
 
 pub returns-in_err-make_room_found-clause-only : goal.returns-in_err-make_room_found-clause-only
@@ -43,17 +43,17 @@ pub returns-clause-noted : goal.returns-clause-noted
 unfolding marks_at pends_at
 returns-clause-noted c =
     let by = issuing c.args.issuer c.args.reach c.args.broadcast in
-    let R = λ (m : ℕ). NotesAmong c.args.found.now by in
-    noted_found c.args.self.now c.note_found.new.broken c.args.found.now by
-    (each_then R c.make_room_found.ensures.each c.note_found.ensures (λ m. among_over c.args.found.now by))
+    let found = c.args.found.now in
+    noted_found c.args.self.now c.note_found.new.broken found by
+    (among_after_room found by c.make_room_found.ensures.each c.note_found.ensures)
 
 pub returns-clause-unnoted : goal.returns-clause-unnoted
 unfolding pends_at
 returns-clause-unnoted c =
     let by = issuing c.args.issuer c.args.reach c.args.broadcast in
-    let R = λ (m : ℕ). NotesAmong c.args.found.now by in
-    unnoted_found c.args.self.now c.note_found.new.broken c.args.found.now by
-    (each_then R c.make_room_found.ensures.each c.note_found.ensures (λ m. among_over c.args.found.now by))
+    let found = c.args.found.now in
+    unnoted_found c.args.self.now c.note_found.new.broken found by
+    (among_after_room found by c.make_room_found.ensures.each c.note_found.ensures)
 
 pub returns-in_err-make_room_found-clause-unnoted : goal.returns-in_err-make_room_found-clause-unnoted
 returns-in_err-make_room_found-clause-unnoted c = λ a _.
