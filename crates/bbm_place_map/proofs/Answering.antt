@@ -1,5 +1,5 @@
 -- One entry that a DSB answered, among the others.
-use Rattle.bbm_place_map.proofs.Common.{◌≡◌, ◌≢◌, ℕ, nat_eq, List, [], Option, Some, None, refl, ap, sym, subst, ◌∙◌}
+use Rattle.bbm_place_map.proofs.Common.{◌≡◌, ◌≢◌, ℕ, nat_eq, List, Option, Some, None, refl, ap, sym, subst, ◌∙◌}
 use Rattle.bbm_place_map.proofs.Common.{if◌then◌else◌, slice_get, Completed, Clean, Broken}
 use Rattle.bbm_place_map.proofs.Common.{Completes, loses_table, is_table, pends_in, no_pends, position, cell_at}
 use Rattle.bbm_place_map.proofs.Common.{entry_of, entry_in, marks_of, marks_in, Linked, Entry, Barrier, with_true}
@@ -13,10 +13,6 @@ completes_at by o o' p p' is is' h =
     let P : Option Entry → Type 0 = λ x. Completes by x p' in
     let Q : Option Entry → Type 0 = λ y. Completes by o y in
     subst Q (sym is') (subst P (sym is) h)
-
-pub none_broken : (entries : List Entry) → entries ≡ [] → (o : Option ℕ) → entry_of entries o ≡ None
-none_broken entries none None = refl
-none_broken entries none (Some k) = ap (λ (es : List Entry). slice_get es k) none
 
 -- it changed, and left
 module _ (by : Barrier) (cells : List ℕ) (entries mid : List Entry) (k : ℕ) (e f : Entry)

@@ -1,10 +1,8 @@
 -- Where the values of pages start, by the numbers of the pages.
 use Rattle.bbm_place_map.proofs.Common.{◌≡◌, ◌∙◌, ℕ, ◌+◌, ◌*◌, ◌/◌, ◌%◌, ◌≤◌, ◌++◌, ◌∷◌, [], Bool, true, false, List}
-use Rattle.bbm_place_map.proofs.Common.{length}
-use Rattle.bbm_place_map.proofs.Common.{Option, Some, None, refl, ap, sym, arith, nat_eq, if◌then◌else◌, option_map}
-use Rattle.bbm_place_map.proofs.Common.{same_Some}
-use Rattle.bbm_place_map.proofs.Common.{none-some, vec_len, Numbered, index_of, bases, number_in, PlaceMap}
-use Rattle.bbm_place_map.proofs.Common.{subst, IsKept}
+use Rattle.bbm_place_map.proofs.Common.{length, Option, Some, None, refl, ap, sym, arith, nat_eq, if◌then◌else◌}
+use Rattle.bbm_place_map.proofs.Common.{option_map, same_Some, none-some, vec_len, Numbered, index_of, bases, number_in}
+use Rattle.bbm_place_map.proofs.Common.{PlaceMap, subst, IsKept, IsOnce}
 use Rattle.bbm_page_map.proofs.Numbering.{number_is, number_push, number_within}
 use Rattle.bbm_place_map.proofs.Places.{index_from}
 
@@ -13,8 +11,11 @@ based None b h = absurd (none-some b h)
 based (Some n) b h = (n, refl, same_Some (512 * n) b h)
 
 -- the number of a page whose values start there
-pub base_number : (pages : List ℕ) (p b : ℕ) → bases pages p ≡ Some b → (n : ℕ) × (number_in pages p ≡ Some n) × (512 * n ≡ b)
+base_number : (pages : List ℕ) (p b : ℕ) → bases pages p ≡ Some b → (n : ℕ) × (number_in pages p ≡ Some n) × (512 * n ≡ b)
 base_number pages p b is = based (number_in pages p) b is
+
+pub base_first : (pages : List ℕ) (p b : ℕ) → bases pages p ≡ Some b → b % 512 ≡ 0
+base_first pages p b is = let n = base_number pages p b is in omega (arith, n.2)
 
 pub numbered_by : (pages : List ℕ) (count : ℕ) → 512 * length pages ≡ count → Numbered (bases pages) count
 numbered_by pages count all = record {
@@ -31,10 +32,10 @@ numbered_by pages count all = record {
 pub numbered_in : (map : PlaceMap) → Numbered (bases map.pages) (vec_len map.values)
 numbered_in map = numbered_by map.pages (vec_len map.values) map.counted
 
-pub is_kept : (map : PlaceMap) → IsKept (bases map.pages) map.broken
-is_kept map =
+pub is_kept : (map : PlaceMap) → IsOnce map.broken → IsKept (bases map.pages) map.broken
+is_kept map once =
     let N : ℕ → Type 0 = Numbered (bases map.pages) in
-    record { numbered = subst N (omega (arith, map.counted, map.paged)) (numbered_in map); placed = map.placed }
+    record { once = once; numbered = subst N (omega (arith, map.counted, map.paged)) (numbered_in map); placed = map.placed }
 
 pub base_none : (pages : List ℕ) (p : ℕ) → number_in pages p ≡ None → bases pages p ≡ None
 base_none pages p none = ap (option_map (λ n. 512 * n)) none

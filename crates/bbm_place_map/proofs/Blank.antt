@@ -1,7 +1,7 @@
 -- Pages no place of which has a value or is broken.
 use Rattle.bbm_place_map.proofs.Common.{◌≡◌, ℕ, ◌+◌, ◌*◌, ◌/◌, ◌%◌, ◌<◌, Option, Some, None, refl, ap, sym, ◌∙◌}
-use Rattle.bbm_place_map.proofs.Common.{none-some, bases, value_in, marks_of, entry_at, place_entry}
-use Rattle.bbm_place_map.proofs.Common.{at_index, index_of, Entry, PlaceMap}
+use Rattle.bbm_place_map.proofs.Common.{none-some, bases, value_in, marks_of, entry_at, place_entry, at_index, index_of}
+use Rattle.bbm_place_map.proofs.Common.{Entry, PlaceMap}
 use Rattle.bbm_place_map.proofs.Places.{cell_of, eighth_at, index_from, number_at, number_below, page_at}
 use Rattle.bbm_place_map.specs.Map.{marks_at, value_at}
 

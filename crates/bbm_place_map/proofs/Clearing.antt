@@ -1,15 +1,10 @@
-use Rattle.bbm_place_map.proofs.Common.{◌*◌, length}
 -- A map whose broken places changed.
+use Rattle.bbm_place_map.proofs.Common.{◌*◌, length, ◌≡◌, ℕ, Bool, true, false, Some, None, nat_eq, ap, sym, subst}
+use Rattle.bbm_place_map.proofs.Common.{eqb-true, ◌∙◌, vec_len, if◌then◌else◌, cond-false, cond-true, Vec, Global}
+use Rattle.bbm_place_map.proofs.Common.{bases, in_page, marks_of, page_of, pends_of, IsIdle, Placed, at_index, index_of}
+use Rattle.bbm_place_map.proofs.Common.{place_entry, entry_at, AreSeated, BrokenMap, Breaks, Clears, Entry, PlaceMap}
+use Rattle.bbm_place_map.proofs.Common.{Option, Frees, Marks, List, value_in, split_by, if_then, inl, inr}
 use Rattle.bbm_place_map.proofs.Bases.{numbered_in}
-use Rattle.bbm_place_map.proofs.Common.{◌≡◌, ◌⊎◌, ℕ, Bool, true, false, Some, None, nat_eq, ap, sym, subst}
-use Rattle.bbm_place_map.proofs.Common.{eqb-true, ◌∙◌}
-use Rattle.bbm_place_map.proofs.Common.{vec_len, if◌then◌else◌, slice_get, cond-false, cond-true, Vec, Global, bases}
-use Rattle.bbm_place_map.proofs.Common.{in_page, marks_of, page_of}
-use Rattle.bbm_place_map.proofs.Common.{pends_of, IsIdle, Placed, at_index, index_of, place_entry, entry_at}
-use Rattle.bbm_place_map.proofs.Common.{pages_in, entries_in}
-use Rattle.bbm_place_map.proofs.Common.{AreSeated, BrokenPlaces, Breaks, Clears, Entry, PlaceMap, Option, Frees, Marks}
-use Rattle.bbm_place_map.proofs.Common.{WasSeated}
-use Rattle.bbm_place_map.proofs.Common.{split_by, if_then, inl, inr}
 use Rattle.bbm_place_map.proofs.Idle.{idle_from}
 use Rattle.bbm_place_map.proofs.Linking.{marks_put, pends_put}
 use Rattle.bbm_place_map.proofs.Places.{at_page, at_place, index_none}
@@ -17,32 +12,40 @@ use Rattle.bbm_place_map.proofs.Positions.{seats_by}
 use Rattle.bbm_place_map.specs.Map.{marks_at, pends_at}
 
 -- A map hangs together with these values and broken places.
-abbrev pub Fits : PlaceMap → Vec ℕ Global → BrokenPlaces → Type 0
+abbrev pub Fits : PlaceMap → Vec ℕ Global → BrokenMap → Type 0
 Fits map values broken = record {
   counted : 512 * length map.pages ≡ vec_len values;
-  paged : pages_in broken ≡ length map.pages;
-  placed : Placed (bases map.pages) (entries_in broken);
+  paged : broken.pages ≡ length map.pages;
+  placed : Placed (bases map.pages) broken.entries;
 }
 
-module _ (map : PlaceMap) (values : Vec ℕ Global) (new : BrokenPlaces) (many : vec_len values ≡ vec_len map.values)
-    (pages : pages_in new ≡ pages_in map.broken) where
-  fits : Placed (bases map.pages) (entries_in new) → Fits map values new
+module _ (map : PlaceMap) (values : Vec ℕ Global) (new : BrokenMap) (many : vec_len values ≡ vec_len map.values)
+    (pages : new.pages ≡ map.broken.pages) where
+  fits : Placed (bases map.pages) new.entries → Fits map values new
   fits placed = record { counted = map.counted ∙ sym many; paged = pages ∙ map.paged; placed = placed }
 
-  pub fits_seated : AreSeated (entries_in map.broken) (entries_in new) → Fits map values new
+  pub fits_seated : AreSeated map.broken.entries new.entries → Fits map values new
   fits_seated seats =
-      fits (seats_by (λ p. index_of (bases map.pages) p.0 ≡ Some p.1) (entries_in map.broken) (entries_in new) seats map.placed)
+      fits (seats_by (λ p. index_of (bases map.pages) p.0 ≡ Some p.1) map.broken.entries new.entries seats map.placed)
 
-  pub fits_put : (j place : ℕ) → index_of (bases map.pages) place ≡ Some j
-      → ((k : ℕ) (e : Entry) → slice_get (entries_in new) k ≡ Some e
-      → WasSeated (entries_in map.broken) e ⊎ ((e.place ≡ place) × (e.index ≡ j))) → Fits map values new
-  fits_put j place at seats =
-      let P : ℕ × ℕ × ℕ → Type 0 = λ p. index_of (bases map.pages) p.0 ≡ Some p.1 in
-      fits (λ k e h.
-      elim (seats k e h) [
-        | inl was ↦ subst P (sym was.3) (map.placed was.0 was.1 was.2)
-        | inr now ↦ ap (index_of (bases map.pages)) now.0 ∙ at ∙ ap (λ (n : ℕ). Some n) (sym now.1)
-      ])
+-- so does a map of which a place broke
+pub fits_put : (map : PlaceMap) (values : Vec ℕ Global) → vec_len values ≡ vec_len map.values → {new : BrokenMap} {place j : ℕ} {marks : Marks}
+    → index_of (bases map.pages) place ≡ Some j → Breaks j place marks map.broken new → Fits map values new
+fits_put map values many {new} at breaks =
+    let P : ℕ × ℕ × ℕ → Type 0 = λ p. index_of (bases map.pages) p.0 ≡ Some p.1 in
+    fits map values new many breaks.pages (λ k e h.
+    elim (breaks.seats k e h) [
+      | inl was ↦ subst P (sym was.3) (map.placed was.0 was.1 was.2)
+      | inr now ↦ ap (index_of (bases map.pages)) now.0 ∙ at ∙ ap (λ (n : ℕ). Some n) (sym now.1)
+    ])
+
+-- a value is written
+pub value_put : (map : PlaceMap) (values : List ℕ) (place value : ℕ) {j : ℕ} → index_of (bases map.pages) place ≡ Some j
+    → ((i : ℕ) → value_in values i ≡ (if nat_eq i j then value else value_in map.values.items i)) → (a : ℕ)
+    → at_index 0 (value_in values) (index_of (bases map.pages) a)
+    ≡ (if nat_eq a place then value else at_index 0 (value_in map.values.items) (index_of (bases map.pages) a))
+value_put map values place value {j} =
+    at_place (bases map.pages) (vec_len map.values) (numbered_in map) 0 value (value_in map.values.items) (value_in values) place j
 
 -- What is then at each place: nothing at those that a test holds of, and what was there elsewhere.
 pub record AtPlaces (gone : ℕ → Bool) (map : PlaceMap) (now : ℕ → Option Entry) : Type 0 where
@@ -59,39 +62,39 @@ at_places gone map now is = record {
   dropped = λ q a on. idle_from (pends_of q (now a)) (ap (pends_of q) (is a ∙ cond-true (gone a) None (place_entry map a) on));
 }
 
-module _ (map : PlaceMap) (new : BrokenPlaces) where
-  abbrev now : ℕ → Option Entry
-  now a = at_index None (entry_at new) (index_of (bases map.pages) a)
+abbrev now : PlaceMap → BrokenMap → ℕ → Option Entry
+now map new a = at_index None (entry_at new) (index_of (bases map.pages) a)
 
+module _ (map : PlaceMap) {new : BrokenMap} where
   -- a place is cleared
-  pub place_cleared : (place j : ℕ) → index_of (bases map.pages) place ≡ Some j
-      → Clears (λ i. nat_eq i j) map.broken new → AtPlaces (λ a. nat_eq a place) map now
-  place_cleared place j at clears =
-      at_places (λ a. nat_eq a place) map now
+  pub place_cleared : (place : ℕ) {j : ℕ} → index_of (bases map.pages) place ≡ Some j → Clears (λ i. nat_eq i j) map.broken new
+      → AtPlaces (λ a. nat_eq a place) map (now map new)
+  place_cleared place {j} at clears =
+      at_places (λ a. nat_eq a place) map (now map new)
       (at_place (bases map.pages) (vec_len map.values) (numbered_in map) None None (entry_at map.broken) (entry_at new) place j at clears.entries)
 
   -- a page is cleared
-  pub page_cleared : (page b : ℕ) → bases map.pages page ≡ Some b
-      → Clears (in_page b 512) map.broken new → AtPlaces (λ a. nat_eq (page_of a) page) map now
-  page_cleared page b is clears =
-      at_places (λ a. nat_eq (page_of a) page) map now
+  pub page_cleared : (page : ℕ) {b : ℕ} → bases map.pages page ≡ Some b → Clears (in_page b 512) map.broken new
+      → AtPlaces (λ a. nat_eq (page_of a) page) map (now map new)
+  page_cleared page {b} is clears =
+      at_places (λ a. nat_eq (page_of a) page) map (now map new)
       (at_page (bases map.pages) (vec_len map.values) (numbered_in map) None (entry_at map.broken) (entry_at new) page b is clears.entries)
 
   -- a place is broken
-  module _ (place j : ℕ) (marks : Marks) (at : index_of (bases map.pages) place ≡ Some j) (breaks : Breaks j place marks map.broken new) where
-    put : (a : ℕ) → now a ≡ (if nat_eq a place then Some breaks.entry.0 else place_entry map a)
+  module _ {place j : ℕ} {marks : Marks} (at : index_of (bases map.pages) place ≡ Some j) (breaks : Breaks j place marks map.broken new) where
+    put : (a : ℕ) → now map new a ≡ (if nat_eq a place then Some breaks.entry.0 else place_entry map a)
     put =
         at_place (bases map.pages) (vec_len map.values) (numbered_in map) None (Some breaks.entry.0) (entry_at map.broken) (entry_at new) place j at
         breaks.entry.3
 
-    pub marks_broken : (a : ℕ) → marks_of (now a) ≡ (if nat_eq a place then Some marks else marks_of (place_entry map a))
+    pub marks_broken : (a : ℕ) → marks_of (now map new a) ≡ (if nat_eq a place then Some marks else marks_of (place_entry map a))
     marks_broken a =
-        marks_put (place_entry map) now breaks.entry.0 place put a
+        marks_put (place_entry map) (now map new) breaks.entry.0 place put a
         ∙ ap (λ (m : Marks). if nat_eq a place then Some m else marks_of (place_entry map a)) breaks.entry.1
 
-    pub pends_broken : (q a : ℕ) → pends_of q (now a) ≡ pends_of q (place_entry map a)
+    pub pends_broken : (q a : ℕ) → pends_of q (now map new a) ≡ pends_of q (place_entry map a)
     pends_broken q =
-        pends_put (place_entry map) now breaks.entry.0 place put q
+        pends_put (place_entry map) (now map new) breaks.entry.0 place put q
         (breaks.entry.2 q ∙ ap (pends_of q) (sym (ap (at_index None (entry_at map.broken)) at)))
 
 -- a page that isn't tracked has no broken place

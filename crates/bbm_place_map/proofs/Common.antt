@@ -50,10 +50,8 @@ pub use Rattle.bbm_page_map.specs.PageLists.{number_in}
 pub use Rattle.bbm_place_map.specs.Map.{is_tracked, page_of, place_entry, state_at}
 pub use Rattle.bbm_place_map.specs.MapCalls.{Frees, IsSame, KeepsItems, Leaves}
 pub use Rattle.bbm_place_map.specs.Parts.{IsSound, entry_of_cell, marks_in, pends_for}
-pub use Rattle.bbm_place_map.specs.ByNumber.{Breaks, ChangesOne, Clears, EachAdvances, IsKept, SameSeats}
-pub use Rattle.bbm_place_map.specs.ByNumber.{SameEntries, VisitsPlaces, entries_in, entry_at}
-pub use Rattle.bbm_place_map.specs.ByNumber.{entry_number, number_at, pages_in}
-pub use Rattle.bbm_place_map.specs.declared.broken.BrokenPlaces.{BrokenPlaces}
+pub use Rattle.bbm_place_map.specs.ByNumber.{Breaks, BrokenMap, ChangesOne, Clears, EachAdvances, HoldsSame, IsKept}
+pub use Rattle.bbm_place_map.specs.ByNumber.{IsOnce, SameSeats, VisitsPlaces, entry_at, entry_number, number_at}
 pub use Rattle.bbm_place_map.specs.PlaceNotes.{Keeps, KeepsOthers, NotesAmong, NotesAs, NotesAt}
 pub use Rattle.bbm_place_map.specs.PlaceNotes.{AtPlace, NotesFound, is_cover}
 pub use Rattle.bbm_place_map.specs.Sound.{Linked, Numbered, Placed, SameSize, at_index, bases, index_of}

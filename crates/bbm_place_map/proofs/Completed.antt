@@ -1,73 +1,42 @@
 -- What a DSB leaves of each place that it visits.
-use Rattle.bbm_place_map.proofs.Common.{◌≡◌, ℕ, Bool, true, false, [], Option, Some, None, refl, ap, sym, subst, ◌∙◌}
-use Rattle.bbm_place_map.proofs.Common.{false≢true, bases, entries_in}
-use Rattle.bbm_place_map.proofs.Common.{Does, HoldsFor, Rests, loses_table, entry_of_cell, marks_of, at_index, index_of}
-use Rattle.bbm_place_map.proofs.Common.{cell_by, entry_at}
-use Rattle.bbm_place_map.proofs.Common.{BrokenPlaces, Entries, Entry, Barrier, Effect, PlaceMap, Complete, Publish}
+use Rattle.bbm_place_map.proofs.Common.{◌≡◌, ℕ, Bool, true, false, List, Some, None, Option, refl, ap, sym, subst, ◌∙◌}
+use Rattle.bbm_place_map.proofs.Common.{Does, HoldsFor, Rests, loses_table, entry_of_cell, marks_of, at_index, cell_by}
+use Rattle.bbm_place_map.proofs.Common.{Entries, Barrier, Effect, Complete, Publish, IsSound}
 use Rattle.bbm_place_map.proofs.Common.{Marks, Work, WorkList, Vec, Global}
-use Rattle.bbm_place_map.proofs.Common.{slot_in, is_clean, PeMask, ◌⊎◌, ◌≢◌, either, IsTold, Stays, ◌<◌}
+use Rattle.bbm_place_map.proofs.Common.{is_clean, PeMask, ◌⊎◌, ◌≢◌, either, IsTold, Stays, ◌<◌}
 use Rattle.bbm_place_map.specs.Dsbs.{HasEffect, HoldOpen, IsSettled, loses_at}
 use Rattle.bbm_place_map.specs.Works.{Listed}
-use Rattle.bbm_place_map.proofs.Answering.{none_broken}
 use Rattle.bbm_place_map.proofs.Doing.{does_none}
-use Rattle.bbm_place_map.proofs.Held.{seat_at}
+use Rattle.bbm_place_map.proofs.Held.{by_cells, entry_by}
 use Rattle.bbm_place_map.proofs.Knowing.{quiet_to, stays_by, told_to}
 use Rattle.bbm_place_map.proofs.Listing.{listed_completed, listed_published, quiet_of, told_of}
 use Rattle.bbm_place_map.proofs.Reaching.{at_each}
-use Rattle.bbm_place_map.proofs.Seats.{seat_of}
-
-entry_lost : (o : Option Entry) (new : Option Marks) → loses_table (marks_of o) new ≡ true → (e : Entry) × (o ≡ Some e)
-entry_lost None new h = absurd (false≢true h)
-entry_lost (Some e) new h = (e, refl)
-
--- where no place is broken no place has an entry
-pub empty_at : (broken : BrokenPlaces) → (entries_in broken) ≡ [] → (j : ℕ) → entry_at broken j ≡ None
-empty_at broken none j = by (cell_by broken.parts.items j)
-  where
-    by : (o : Option ℕ) → at_index None (entry_of_cell broken.entries) o ≡ None
-    by None = refl
-    by (Some c) = none_broken (entries_in broken) none (slot_in broken.entries.cells.items c)
-
-pub empty_place : (broken : BrokenPlaces) → (entries_in broken) ≡ [] → (o : Option ℕ) → at_index None (entry_at broken) o ≡ None
-empty_place broken none None = refl
-empty_place broken none (Some j) = empty_at broken none j
+use Rattle.bbm_place_map.proofs.Seats.{entry_lost, seat_of}
 
 -- each cell is visited, and so each place
-module _ (by : Barrier) (old : BrokenPlaces) (new : Entries) where
-  abbrev now : ℕ → Option Entry
-  now j = at_index None (entry_of_cell new) (cell_by old.parts.items j)
-
-  pub visited_each : ((c : ℕ) → Does by.effect by (entry_of_cell old.entries c) (entry_of_cell new c)) → (j : ℕ)
-      → Does by.effect by (entry_at old j) (now j)
+module _ (by : Barrier) {parts : List ℕ} {old new : Entries} (sound : IsSound parts old) (sound' : IsSound parts new) where
+  pub visited_each : ((c : ℕ) → Does by.effect by (entry_of_cell old c) (entry_of_cell new c)) → (j : ℕ)
+      → Does by.effect by (entry_by old.list.items j) (entry_by new.list.items j)
   visited_each each j =
-      at_each (Does by.effect by) None (entry_of_cell old.entries) (entry_of_cell new) (does_none by.effect by) each (cell_by old.parts.items j)
+      by_cells sound sound' (Does by.effect by) j
+      (at_each (Does by.effect by) None (entry_of_cell old) (entry_of_cell new) (does_none by.effect by) each (cell_by parts j))
 
-  pub visited_lost : (c : ℕ) × (loses_at old.entries new c ≡ true) → (j : ℕ) × (loses_table (marks_of (entry_at old j)) (marks_of (now j)) ≡ true)
+  pub visited_lost : (c : ℕ) × (loses_at old new c ≡ true)
+      → (j : ℕ) × (loses_table (marks_of (entry_by old.list.items j)) (marks_of (entry_by new.list.items j)) ≡ true)
   visited_lost w =
-      let e = entry_lost (entry_of_cell old.entries w.0) (marks_of (entry_of_cell new w.0)) w.1 in
-      let s = seat_of old.entries.linked w.0 e.0 e.1 in
-      let here : cell_by old.parts.items e.0.index ≡ Some w.0 = old.sound.seated s.0 e.0 s.2 ∙ ap (λ (n : ℕ). Some n) s.3 in (
+      let e = entry_lost (entry_of_cell old w.0) (marks_of (entry_of_cell new w.0)) w.1 in
+      let s = seat_of old.linked w.0 e.0 e.1 in
+      let here : cell_by parts e.0.index ≡ Some w.0 = sound.seated s.0 e.0 s.2 ∙ ap (λ (n : ℕ). Some n) s.3 in (
         e.0.index,
-        ap (λ (o : Option ℕ). loses_table (marks_of (at_index None (entry_of_cell old.entries) o)) (marks_of (at_index None (entry_of_cell new) o))) here
-            ∙ w.1,
+        by_cells sound sound' (λ o p. loses_table (marks_of o) (marks_of p) ≡ true) e.0.index
+            (ap (λ (o : Option ℕ). loses_table (marks_of (at_index None (entry_of_cell old) o)) (marks_of (at_index None (entry_of_cell new) o))) here ∙ w.1),
       )
 
-  pub visited_kept : ((c : ℕ) → loses_at old.entries new c ≡ false) → (j : ℕ) → loses_table (marks_of (entry_at old j)) (marks_of (now j)) ≡ false
+  pub visited_kept : ((c : ℕ) → loses_at old new c ≡ false) → (j : ℕ)
+      → loses_table (marks_of (entry_by old.list.items j)) (marks_of (entry_by new.list.items j)) ≡ false
   visited_kept kept j =
-      at_each (λ o p. loses_table (marks_of o) (marks_of p) ≡ false) None (entry_of_cell old.entries) (entry_of_cell new) refl kept
-      (cell_by old.parts.items j)
-
--- a place that lost a table
-pub lost_place : (map : PlaceMap) (new : ℕ → Option Entry) (j : ℕ) → loses_table (marks_of (entry_at map.broken j)) (marks_of (new j)) ≡ true
-    → (a : ℕ) × (loses_table (marks_of (at_index None (entry_at map.broken) (index_of (bases map.pages) a)))
-    (marks_of (at_index None new (index_of (bases map.pages) a))) ≡ true)
-lost_place map new j h =
-    let e = entry_lost (entry_at map.broken j) (marks_of (new j)) h in
-    let s = seat_at map.broken j e.0 e.1 in
-    let here : index_of (bases map.pages) e.0.place ≡ Some j = map.placed s.0 e.0 s.2 ∙ ap (λ (n : ℕ). Some n) s.3 in (
-      e.0.place,
-      ap (λ (o : Option ℕ). loses_table (marks_of (at_index None (entry_at map.broken) o)) (marks_of (at_index None new o))) here ∙ h,
-    )
+      by_cells sound sound' (λ o p. loses_table (marks_of o) (marks_of p) ≡ false) j
+      (at_each (λ o p. loses_table (marks_of o) (marks_of p) ≡ false) None (entry_of_cell old) (entry_of_cell new) refl kept (cell_by parts j))
 
 -- what the lists know before, and after
 module _ (w : Work) (by : Barrier) (old : Entries) (number : w.pes ≡ by.n) (listed : Listed w old.cells.items old.list.items) where

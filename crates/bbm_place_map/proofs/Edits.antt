@@ -46,10 +46,6 @@ entries_few cells entries linked =
 pub value_read : (values : List ℕ) (j x : ℕ) → j < length values → x ≡ get_or values j x → value_in values j ≡ x
 value_read values j x within is = get_or_from_slice_get values j x 0 (slice_get_read values (length values) j x refl within is)
 
--- there is no cell past the cells
-pub slot_past : (cells : List ℕ) (j : ℕ) → length cells ≤ j → slot_in cells j ≡ None
-slot_past cells j past = ap number_of (get_or_past cells j 0 past)
-
 pub map_none : (f : ℕ → ℕ) (o : Option ℕ) → option_map f o ≡ None → o ≡ None
 map_none f None h = refl
 map_none f (Some x) h = absurd (none-some (f x) (sym h))

@@ -1,51 +1,42 @@
 -- What the issue of a TLBI notes, of a place.
 use Rattle.bbm_place_map.proofs.Common.{◌≡◌, ℕ, true, false, ◌<◌, List, length, Option, Some, None, is_some, refl, ap}
-use Rattle.bbm_place_map.proofs.Common.{bases, entries_in}
-use Rattle.bbm_place_map.proofs.Common.{sym, subst, ◌∙◌, arith, slice_get, get_or, option_map, slice_get_within}
-use Rattle.bbm_place_map.proofs.Common.{unwrap_or}
-use Rattle.bbm_place_map.proofs.Common.{slice_get-get_or, Cover, Noted, Broken, entry_of, position}
-use Rattle.bbm_place_map.proofs.Common.{pends_in, pends_of, cover_in, is_found, FoundAs, NotesAmong}
-use Rattle.bbm_place_map.proofs.Common.{NotesAt}
-use Rattle.bbm_place_map.proofs.Common.{index_of, at_index, state_from, entry_at, number_at}
-use Rattle.bbm_place_map.proofs.Common.{place_entry, Vec, Global}
-use Rattle.bbm_place_map.proofs.Common.{Entry, Pending, Found, Issuing, false≢true, marks_of, BrokenPlaces}
-use Rattle.bbm_place_map.proofs.Common.{EachAdvances, PlaceMap}
-use Rattle.bbm_place_map.proofs.Common.{Marks, none-some, same_Some}
-use Rattle.bbm_place_map.proofs.Common.{◌≢◌, value_in, IsSame, Keeps}
+use Rattle.bbm_place_map.proofs.Common.{bases, sym, subst, ◌∙◌, arith, slice_get, get_or, option_map, slice_get_within}
+use Rattle.bbm_place_map.proofs.Common.{unwrap_or, slice_get-get_or, Cover, Noted, Broken, entry_of, position, pends_in}
+use Rattle.bbm_place_map.proofs.Common.{pends_of, cover_in, is_found, FoundAs, NotesAmong, NotesAt, index_of, at_index}
+use Rattle.bbm_place_map.proofs.Common.{state_from, entry_at, number_at, place_entry, Vec, Global, Entry, Pending}
+use Rattle.bbm_place_map.proofs.Common.{Found, Issuing, false≢true, marks_of, BrokenMap, EachAdvances, IsOnce, PlaceMap}
+use Rattle.bbm_place_map.proofs.Common.{Marks, none-some, same_Some, ◌≢◌, value_in, IsSame, Keeps, AreSeated}
 use Rattle.bbm_place_map.specs.MapCalls.{KeepsPlaces, NotesOnly}
 use Rattle.std.proofs.lemmas.Bool.{eqb-false}
 use Rattle.bbm_place_map.proofs.Clearing.{Fits, fits_seated}
-use Rattle.bbm_place_map.proofs.Held.{entry_by_number, number_back}
+use Rattle.bbm_place_map.proofs.Keeping.{numbers_moved}
 use Rattle.bbm_place_map.specs.Map.{pages_of, marks_at, pends_at, restless_in, restless_place, value_at}
 use Rattle.bbm_place_map.proofs.Advancing.{by_entries, column_kept, position_kept}
 use Rattle.bbm_place_map.proofs.Finding.{cover_is}
-use Rattle.bbm_place_map.proofs.Common.{AreSeated}
 use Rattle.bbm_place_map.proofs.Positions.{seats_kept}
 use Rattle.bbm_place_map.proofs.Reaching.{at_each}
-use Rattle.bbm_place_map.proofs.Restless.{entry_here, entry_seat, entry_there, place_is, place_of}
+use Rattle.bbm_place_map.proofs.Restless.{entry_here, entry_seat, place_is, place_of}
+use Rattle.bbm_place_map.proofs.Seats.{entry_there}
 
 pub cover_read : (covers : List Cover) (i : ℕ) (x y : Cover) → i < length covers → x ≡ get_or covers i x → y ≡ x → slice_get covers i ≡ Some y
 cover_read covers i x y within is same = slice_get-get_or covers i x within ∙ ap (λ (c : Cover). Some c) (sym is ∙ sym same)
 
 -- the entries change each in its place
-module _ (R : ℕ → Entry → Entry → Type 0) (map : PlaceMap) (new : BrokenPlaces) (changed : EachAdvances R map.broken new) where
+module _ (R : ℕ → Entry → Entry → Type 0) (map : PlaceMap) (new : BrokenMap) (changed : EachAdvances R map.broken new) where
   abbrev now : ℕ → Option Entry
   now a = at_index None (entry_at new) (index_of (bases map.pages) a)
 
   module _ (P : Option Entry → Option Entry → Type 0) (none : P None None)
-      (some : (m : ℕ) (e f : Entry) → slice_get (entries_in map.broken) m ≡ Some e → position f ≡ position e → R m e f → P (Some e) (Some f)) where
-    by_number : (s : Option ℕ) → P (entry_of (entries_in map.broken) s) (entry_of (entries_in new) s)
+      (some : (m : ℕ) (e f : Entry) → slice_get map.broken.entries m ≡ Some e → position f ≡ position e → R m e f → P (Some e) (Some f)) where
+    by_number : (s : Option ℕ) → P (entry_of map.broken.entries s) (entry_of new.entries s)
     by_number None = none
     by_number (Some m) =
-        by_entries (R m) (λ o p. slice_get (entries_in map.broken) m ≡ o → P o p) (λ _. none) (λ e f seated h is. some m e f is seated h)
-        (slice_get (entries_in map.broken) m) (slice_get (entries_in new) m) (changed.each m) refl
+        by_entries (R m) (λ o p. slice_get map.broken.entries m ≡ o → P o p) (λ _. none) (λ e f seated h is. some m e f is seated h)
+        (slice_get map.broken.entries m) (slice_get new.entries m) (changed.each m) refl
 
     by_index : (j : ℕ) → P (entry_at map.broken j) (entry_at new j)
     by_index j =
-        let now : entry_at new j ≡ entry_of (entries_in new) (number_at map.broken j)
-        = entry_by_number new j ∙ ap (entry_of (entries_in new)) (changed.same.numbers j) in
-        let Q : Option Entry → Type 0 = λ o. P o (entry_of (entries_in new) (number_at map.broken j)) in
-        subst (P (entry_at map.broken j)) (sym now) (subst Q (sym (entry_by_number map.broken j)) (by_number (number_at map.broken j)))
+        subst (λ (o : Option ℕ). P (entry_at map.broken j) (entry_of new.entries o)) (sym (numbers_moved changed j)) (by_number (number_at map.broken j))
 
     by_place : (a : ℕ) → P (place_entry map a) (now a)
     by_place a = at_each P None (entry_at map.broken) (entry_at new) none by_index (index_of (bases map.pages) a)
@@ -58,20 +49,20 @@ module _ (R : ℕ → Entry → Entry → Type 0) (map : PlaceMap) (new : Broken
       → pends_of q (now a) ≡ pends_of q (place_entry map a)
   pends_stay q same = by_place (λ o p. pends_of q p ≡ pends_of q o) refl (λ m e f is seated h. same m e f h)
 
-  pub places_stay : (i : ℕ) → unwrap_or (option_map (λ (e : Entry). e.place) (slice_get (entries_in new) i)) 0
-      ≡ unwrap_or (option_map (λ (e : Entry). e.place) (slice_get (entries_in map.broken) i)) 0
+  pub places_stay : (i : ℕ) → unwrap_or (option_map (λ (e : Entry). e.place) (slice_get new.entries i)) 0
+      ≡ unwrap_or (option_map (λ (e : Entry). e.place) (slice_get map.broken.entries i)) 0
   places_stay i =
       column_kept (λ o. unwrap_or (option_map (λ (e : Entry). e.place) o) 0) (R i) (λ e f seated h. ap (λ (p : ℕ × ℕ × ℕ). p.0) seated)
-      (slice_get (entries_in map.broken) i) (slice_get (entries_in new) i) (changed.each i)
+      (slice_get map.broken.entries i) (slice_get new.entries i) (changed.each i)
 
-  pub seats_stay : AreSeated (entries_in map.broken) (entries_in new)
+  pub seats_stay : AreSeated map.broken.entries new.entries
   seats_stay =
-      seats_kept (entries_in map.broken) (entries_in new)
-      (λ m. position_kept (R m) (slice_get (entries_in map.broken) m) (slice_get (entries_in new) m) (changed.each m))
+      seats_kept map.broken.entries new.entries
+      (λ m. position_kept (R m) (slice_get map.broken.entries m) (slice_get new.entries m) (changed.each m))
 
 -- what two maps have alike, where the entries change each in its place
 module _ (R : ℕ → Entry → Entry → Type 0) (map : PlaceMap) where
-  pub fits_each : (new : BrokenPlaces) → EachAdvances R map.broken new → Fits map map.values new
+  pub fits_each : (new : BrokenMap) → EachAdvances R map.broken new → Fits map map.values new
   fits_each new changed = fits_seated map map.values new refl changed.same.pages (seats_stay R map new changed)
 
   module _ (new : PlaceMap) (values : new.values ≡ map.values) (pages : new.pages ≡ map.pages) (changed : EachAdvances R map.broken new.broken) where
@@ -131,24 +122,24 @@ module _ (map new : PlaceMap) (values : new.values ≡ map.values) (pages : new.
       }
 
 -- at the place of an entry, by its number
-pub noted_by_number : (map : PlaceMap) (new : BrokenPlaces) (covers : List Cover) (by : Issuing) → EachAdvances (NotesAt covers by) map.broken new
-    → length covers ≡ length (entries_in map.broken) → (i : ℕ) (c : Cover) → slice_get covers i ≡ Some c
+pub noted_by_number : (map : PlaceMap) → IsOnce map.broken → (new : BrokenMap) (covers : List Cover) (by : Issuing) → EachAdvances (NotesAt covers by) map.broken new
+    → length covers ≡ length map.broken.entries → (i : ℕ) (c : Cover) → slice_get covers i ≡ Some c
     → Noted (state_from None (marks_of (place_entry map (place_of map i)))) (pends_of by.issuer (place_entry map (place_of map i)))
     by.reach by.broadcast c (pends_of by.issuer (at_index None (entry_at new) (index_of (bases map.pages) (place_of map i))))
-noted_by_number map new covers by changed len i c cover =
+noted_by_number map once new covers by changed len i c cover =
     let within : i < length covers = slice_get_within covers i c cover in
-    let e = entry_there (entries_in map.broken) i (omega (arith, within, len)) in
+    let e = entry_there map.broken.entries i (omega (arith, within, len)) in
     by_place (NotesAt covers by) map new changed
     (λ o p. o ≡ Some e.0 → Noted (state_from None (marks_of o)) (pends_of by.issuer o) by.reach by.broadcast c (pends_of by.issuer p))
     (λ h. absurd (none-some e.0 h))
     (λ m x f is seated h same.
-    let here : m ≡ i = same_Some m i (sym (number_back map.broken m e.0 (is ∙ same)) ∙ number_back map.broken i e.0 e.1) in
+    let here : m ≡ i = same_Some m i (sym (once m e.0 (is ∙ same)) ∙ once i e.0 e.1) in
     (h.2 c (ap (slice_get covers) here ∙ cover)).2)
     (place_of map i)
-    (ap (place_entry map) (place_is map i e.0 e.1) ∙ entry_here map i e.0 e.1)
+    (ap (place_entry map) (place_is map i e.0 e.1) ∙ entry_here map once i e.0 e.1)
 
 -- a TLBI that covers the places of a few items
-pub noted_found : (map : PlaceMap) (new : BrokenPlaces) (found : List Found) (by : Issuing) → EachAdvances (λ _. NotesAmong found by) map.broken new
+pub noted_found : (map : PlaceMap) (new : BrokenMap) (found : List Found) (by : Issuing) → EachAdvances (λ _. NotesAmong found by) map.broken new
     → (f : ℕ → Cover) → FoundAs found f → (a : ℕ) → is_found found a ≡ true → is_some (marks_of (place_entry map a)) ≡ true
     → Noted (state_from None (marks_of (place_entry map a))) (pends_of by.issuer (place_entry map a)) by.reach by.broadcast (f a)
     (pends_of by.issuer (at_index None (entry_at new) (index_of (bases map.pages) a)))
@@ -161,7 +152,7 @@ noted_found map new found by changed f fits a among =
     (pends_in g.pends.items by.issuer)) (ap (cover_in found) (place e refl) ∙ cover_is f found fits a among) h.0.2)
     a (λ e is. (entry_seat map a e is).2)
 
-pub unnoted_found : (map : PlaceMap) (new : BrokenPlaces) (found : List Found) (by : Issuing)
+pub unnoted_found : (map : PlaceMap) (new : BrokenMap) (found : List Found) (by : Issuing)
     → EachAdvances (λ _. NotesAmong found by) map.broken new → (a : ℕ) → is_found found a ≡ false
     → pends_of by.issuer (at_index None (entry_at new) (index_of (bases map.pages) a)) ≡ pends_of by.issuer (place_entry map a)
 unnoted_found map new found by changed a none =

@@ -1,112 +1,116 @@
 -- Entries that change each in its place.
-use Rattle.bbm_place_map.proofs.Common.{◌≡◌, ◌≢◌, ℕ, ◌*◌, List, Option, Some, None, refl, ap, sym, ◌∙◌, slice_get}
-use Rattle.bbm_place_map.proofs.Common.{nat_eq, if◌then◌else◌, inr, subst}
-use Rattle.bbm_place_map.proofs.Common.{Cover, Found, NotesAmong, NotesAt, NotesFound}
-use Rattle.bbm_place_map.proofs.Common.{at_index, index_of, none-some, position, BrokenPlaces, ChangesOne, EachAdvances}
-use Rattle.bbm_place_map.proofs.Common.{AtPlace, Entries, Entry, cases_eq, entries_in, inl, same_Some}
-use Rattle.bbm_place_map.proofs.Common.{Advances, AreSeated, IsKept, Issuing, Keeps, KeepsOthers, Numbered, SameSeats}
-use Rattle.bbm_place_map.proofs.Common.{Vec, Global, Waits, Work, WorkList, arith, length, ◌+◌, ◌<◌, ◌≤◌}
-use Rattle.bbm_place_map.proofs.Common.{entry_number, number_at, pages_in}
-use Rattle.bbm_place_map.specs.PlaceNotes.{OnlyNotes}
-use Rattle.bbm_place_map.specs.Works.{Listed}
-use Rattle.bbm_place_map.proofs.Advancing.{advance_then, all_done, done_more, one_advances, position_kept, rest_more, self_advances}
-use Rattle.bbm_place_map.proofs.Held.{number_back, number_seat}
-use Rattle.bbm_place_map.proofs.Listing.{listed_noted, listed_roomed}
+use Rattle.bbm_place_map.proofs.Common.{◌≡◌, ◌≢◌, ℕ, ◌*◌, List, Option, Some, None, refl, ap, sym, ◌∙◌, slice_get, inr}
+use Rattle.bbm_place_map.proofs.Common.{subst, Cover, Found, NotesAmong, NotesAt, NotesFound, at_index, index_of}
+use Rattle.bbm_place_map.proofs.Common.{none-some, position, BrokenMap, ChangesOne, EachAdvances, AtPlace, Entry}
+use Rattle.bbm_place_map.proofs.Common.{cases_eq, inl, same_Some, Advances, AreSeated, IsKept, Issuing, Keeps, Numbered}
+use Rattle.bbm_place_map.proofs.Common.{SameSeats, arith, length, ◌+◌, ◌<◌, ◌≤◌, entry_number, number_at, option_map}
+use Rattle.bbm_place_map.proofs.Advancing.{advance_then, advanced_from, all_done, column_kept, done_more, one_advances}
+use Rattle.bbm_place_map.proofs.Advancing.{position_kept, rest_more, self_advances}
 use Rattle.bbm_place_map.proofs.Noting.{among_over, at_over, gets_same}
+use Rattle.bbm_place_map.proofs.Numbers.{number_from, numbers_kept}
 use Rattle.bbm_place_map.proofs.Places.{index_once}
 use Rattle.bbm_place_map.proofs.Positions.{seats_by, seats_kept}
-use Rattle.bbm_place_map.proofs.Restless.{entry_there}
-use Rattle.bbm_place_map.proofs.Seats.{by_index}
+use Rattle.bbm_place_map.proofs.Seats.{by_index, entry_there}
 
-pub seats_all : (old : BrokenPlaces) → SameSeats old old
-seats_all old = record { pages = refl; numbers = λ j. refl; len = refl }
+pub seats_all : (old : BrokenMap) → SameSeats old old
+seats_all old = record { pages = refl; len = refl }
 
-pub seats_more : {old mid new : BrokenPlaces} → SameSeats old mid → SameSeats mid new → SameSeats old new
-seats_more a b = record { pages = b.pages ∙ a.pages; numbers = λ j. b.numbers j ∙ a.numbers j; len = b.len ∙ a.len }
+pub seats_more : {old mid new : BrokenMap} → SameSeats old mid → SameSeats mid new → SameSeats old new
+seats_more a b = record { pages = b.pages ∙ a.pages; len = b.len ∙ a.len }
 
-pub each_then : {A B : ℕ → Entry → Entry → Type 0} (C : ℕ → Entry → Entry → Type 0) {old mid new : BrokenPlaces} → EachAdvances A old mid
+pub each_then : {A B : ℕ → Entry → Entry → Type 0} (C : ℕ → Entry → Entry → Type 0) {old mid new : BrokenMap} → EachAdvances A old mid
     → EachAdvances B mid new → ((m : ℕ) (e f g : Entry) → position f ≡ position e → A m e f → B m f g → C m e g) → EachAdvances C old new
 each_then {A} {B} C {old} {mid} {new} a b by = record {
   same = seats_more a.same b.same;
   each = λ m.
-      advance_then (A m) (B m) (C m) (by m) (slice_get (entries_in old) m) (slice_get (entries_in mid) m) (slice_get (entries_in new) m)
+      advance_then (A m) (B m) (C m) (by m) (slice_get old.entries m) (slice_get mid.entries m) (slice_get new.entries m)
       (a.each m) (b.each m);
 }
 
 -- one entry changed
-pub one_changed : {R : Entry → Entry → Type 0} (S : Entry → Entry → Type 0) {old new : BrokenPlaces} {k : ℕ} → ChangesOne k R old new
-    → (e : Entry) → slice_get (entries_in old) k ≡ Some e → ((f : Entry) → position f ≡ position e → R e f → S e f)
-    → ((m : ℕ) (x : Entry) → m ≢ k → slice_get (entries_in old) m ≡ Some x → S x x) → EachAdvances (λ _. S) old new
+pub one_changed : {R : Entry → Entry → Type 0} (S : Entry → Entry → Type 0) {old new : BrokenMap} {k : ℕ} → ChangesOne k R old new
+    → (e : Entry) → slice_get old.entries k ≡ Some e → ((f : Entry) → position f ≡ position e → R e f → S e f)
+    → ((m : ℕ) (x : Entry) → m ≢ k → slice_get old.entries m ≡ Some x → S x x) → EachAdvances (λ _. S) old new
 one_changed S {old} {new} {k} c e was now others =
     let f = c.entry e was in
     record {
       same = c.same;
-      each = one_advances S (entries_in old) (entries_in new) k e f.0 was f.1 (now f.0 f.1 f.2) f.3 others;
+      each = one_advances S old.entries new.entries k e f.0 was f.1 (now f.0 f.1 f.2) f.3 others;
     }
 
 -- The entries below a number changed each in its place, and no other did.
-pub record ChangedBelow (R : ℕ → Entry → Entry → Type 0) (k : ℕ) (old new : BrokenPlaces) : Type 0 where
+pub record ChangedBelow (R : ℕ → Entry → Entry → Type 0) (k : ℕ) (old new : BrokenMap) : Type 0 where
   pub same : SameSeats old new
-  pub done : (m : ℕ) → m < k → Advances (R m) (slice_get (entries_in old) m) (slice_get (entries_in new) m)
-  pub rest : (m : ℕ) → k ≤ m → slice_get (entries_in new) m ≡ slice_get (entries_in old) m
+  pub done : (m : ℕ) → m < k → Advances (R m) (slice_get old.entries m) (slice_get new.entries m)
+  pub rest : (m : ℕ) → k ≤ m → slice_get new.entries m ≡ slice_get old.entries m
 
-pub below_none : (R : ℕ → Entry → Entry → Type 0) (old : BrokenPlaces) → ChangedBelow R 0 old old
+pub below_none : (R : ℕ → Entry → Entry → Type 0) (old : BrokenMap) → ChangedBelow R 0 old old
 below_none R old = record { same = seats_all old; done = λ m below. absurd (omega (arith, below)); rest = λ m above. refl }
 
 -- so does the next one
-pub below_more : {R : ℕ → Entry → Entry → Type 0} {Q : Entry → Entry → Type 0} {k : ℕ} {old mid new : BrokenPlaces} → ChangedBelow R k old mid
-    → k < length (entries_in old) → ChangesOne k Q mid new → ((e f : Entry) → Q e f → R k e f) → ChangedBelow R (k + 1) old new
+pub below_more : {R : ℕ → Entry → Entry → Type 0} {Q : Entry → Entry → Type 0} {k : ℕ} {old mid new : BrokenMap} → ChangedBelow R k old mid
+    → k < length old.entries → ChangesOne k Q mid new → ((e f : Entry) → Q e f → R k e f) → ChangedBelow R (k + 1) old new
 below_more {R} {Q} {k} {old} {mid} {new} below within c by =
-    let e = entry_there (entries_in mid) k (omega (arith, within, below.same.len)) in
+    let e = entry_there mid.entries k (omega (arith, within, below.same.len)) in
     let f = c.entry e.0 e.1 in
     record {
       same = seats_more below.same c.same;
-      done = done_more R (entries_in old) (entries_in mid) (entries_in new) k e.0 f.0 below.done below.rest e.1 f.1 (by e.0 f.0 f.2) f.3;
-      rest = rest_more R (entries_in old) (entries_in mid) (entries_in new) k e.0 f.0 below.done below.rest e.1 f.1 (by e.0 f.0 f.2) f.3;
+      done = done_more R old.entries mid.entries new.entries k e.0 f.0 below.done below.rest e.1 f.1 (by e.0 f.0 f.2) f.3;
+      rest = rest_more R old.entries mid.entries new.entries k e.0 f.0 below.done below.rest e.1 f.1 (by e.0 f.0 f.2) f.3;
     }
 
-pub below_kept : {R : ℕ → Entry → Entry → Type 0} {k : ℕ} {old mid : BrokenPlaces} → ChangedBelow R k old mid → k < length (entries_in old)
+pub below_kept : {R : ℕ → Entry → Entry → Type 0} {k : ℕ} {old mid : BrokenMap} → ChangedBelow R k old mid → k < length old.entries
     → ((e : Entry) → R k e e) → ChangedBelow R (k + 1) old mid
 below_kept {R} {k} {old} {mid} below within stays =
     let none : ChangesOne k (R k) mid mid
-    = record { same = seats_all mid; entry = λ e is. (e, refl, stays e, gets_same (entries_in mid) k e is) } in
+    = record { same = seats_all mid; entry = λ e is. (e, refl, stays e, gets_same mid.entries k e is) } in
     below_more below within none (λ e f h. h)
 
-pub below_all : {R : ℕ → Entry → Entry → Type 0} {k : ℕ} {old new : BrokenPlaces} → ChangedBelow R k old new → length (entries_in old) ≤ k
+pub below_all : {R : ℕ → Entry → Entry → Type 0} {k : ℕ} {old new : BrokenMap} → ChangedBelow R k old new → length old.entries ≤ k
     → EachAdvances R old new
 below_all {R} {k} {old} {new} below whole =
-    record { same = below.same; each = all_done R (entries_in old) (entries_in new) k whole below.done below.rest }
+    record { same = below.same; each = all_done R old.entries new.entries k whole below.done below.rest }
 
 pub moved : (R : ℕ → Entry → Entry → Type 0) (old new : List Entry) → ((m : ℕ) → Advances (R m) (slice_get old m) (slice_get new m)) → AreSeated old new
 moved R old new each = seats_kept old new (λ m. position_kept (R m) (slice_get old m) (slice_get new m) (each m))
 
+-- each place has the number that it had
+pub numbers_moved : {R : ℕ → Entry → Entry → Type 0} {old new : BrokenMap} → EachAdvances R old new → (j : ℕ) → number_at new j ≡ number_at old j
+numbers_moved {R} {old} {new} changed =
+    numbers_kept old.entries new.entries (λ m.
+    column_kept (option_map (λ (e : Entry). e.index)) (R m) (λ e f seated _. ap (λ (p : ℕ × ℕ × ℕ). Some p.1) seated)
+    (slice_get old.entries m) (slice_get new.entries m) (changed.each m))
+
 -- the places stay where the pages say
-pub kept_moved : {base : ℕ → Option ℕ} {R : ℕ → Entry → Entry → Type 0} {old new : BrokenPlaces} → IsKept base old → EachAdvances R old new → IsKept base new
+pub kept_moved : {base : ℕ → Option ℕ} {R : ℕ → Entry → Entry → Type 0} {old new : BrokenMap} → IsKept base old → EachAdvances R old new → IsKept base new
 kept_moved {base} {R} {old} {new} kept changed =
     let N : ℕ → Type 0 = λ n. Numbered base (512 * n) in
     record {
+      once = λ k f is.
+          let e = advanced_from (R k) (slice_get old.entries k) f (subst (Advances (R k) (slice_get old.entries k)) is (changed.each k)) in
+          numbers_moved changed f.index ∙ ap (λ (p : ℕ × ℕ × ℕ). number_at old p.1) e.2 ∙ kept.once k e.0 e.1;
       numbered = subst N (sym changed.same.pages) kept.numbered;
       placed =
-          seats_by (λ p. index_of base p.0 ≡ Some p.1) (entries_in old) (entries_in new)
-          (moved R (entries_in old) (entries_in new) changed.each) kept.placed;
+          seats_by (λ p. index_of base p.0 ≡ Some p.1) old.entries new.entries
+          (moved R old.entries new.entries changed.each) kept.placed;
     }
 
-module _ {base : ℕ → Option ℕ} {broken : BrokenPlaces} (kept : IsKept base broken) (place : ℕ) where
+module _ {base : ℕ → Option ℕ} {broken : BrokenMap} (kept : IsKept base broken) (place : ℕ) where
   -- a number is that of the entry of its place, and an entry has its number
-  pub place_of_number : (k : ℕ) → entry_number base broken place ≡ Some k → (e : Entry) × (slice_get (entries_in broken) k ≡ Some e) × (e.place ≡ place)
+  pub place_of_number : (k : ℕ) → entry_number base broken place ≡ Some k → (e : Entry) × (slice_get broken.entries k ≡ Some e) × (e.place ≡ place)
   place_of_number k =
-      by_index (λ o. at_index None (number_at broken) o ≡ Some k → (e : Entry) × (slice_get (entries_in broken) k ≡ Some e) × (e.place ≡ place))
+      by_index (λ o. at_index None (number_at broken) o ≡ Some k → (e : Entry) × (slice_get broken.entries k ≡ Some e) × (e.place ≡ place))
       (index_of base place) (λ h. absurd (none-some k h))
       (λ j at h.
-      let e = number_seat broken j k h in
-      (e.0, e.1, index_once base (512 * pages_in broken) kept.numbered e.0.place place j (kept.placed k e.0 e.1 ∙ ap (λ (n : ℕ). Some n) e.2) at))
+      let e = number_from broken.entries j k h in
+      (e.0, e.1, index_once base (512 * broken.pages) kept.numbered e.0.place place j (kept.placed k e.0 e.1 ∙ ap (λ (n : ℕ). Some n) e.2) at))
 
-  pub number_of_place : (m : ℕ) (x : Entry) → slice_get (entries_in broken) m ≡ Some x → x.place ≡ place → entry_number base broken place ≡ Some m
+  pub number_of_place : (m : ℕ) (x : Entry) → slice_get broken.entries m ≡ Some x → x.place ≡ place → entry_number base broken place ≡ Some m
   number_of_place m x is same =
-      ap (entry_number base broken) (sym same) ∙ ap (at_index None (number_at broken)) (kept.placed m x is) ∙ number_back broken m x is
+      ap (entry_number base broken) (sym same) ∙ ap (at_index None (number_at broken)) (kept.placed m x is) ∙ kept.once m x is
 
   -- the entry of a place changed, if it is broken
-  pub place_changed : {R : Entry → Entry → Type 0} {new : BrokenPlaces} (k : ℕ) → entry_number base broken place ≡ Some k
+  pub place_changed : {R : Entry → Entry → Type 0} {new : BrokenMap} (k : ℕ) → entry_number base broken place ≡ Some k
       → ChangesOne k R broken new → EachAdvances (λ _. AtPlace place R) broken new
   place_changed {R} {new} k at changes =
       let e = place_of_number k at in
@@ -117,21 +121,21 @@ module _ {base : ℕ → Option ℕ} {broken : BrokenPlaces} (kept : IsKept base
   place_none R none = record {
     same = seats_all broken;
     each = λ m.
-        self_advances (AtPlace place R) (slice_get (entries_in broken) m)
+        self_advances (AtPlace place R) (slice_get broken.entries m)
         (λ x is. (λ here. absurd (none-some m (sym none ∙ number_of_place m x is here)), λ apart. refl));
   }
 
 -- room was made before a TLBI was noted
-pub at_after_room : (covers : List Cover) (by : Issuing) {old mid new : BrokenPlaces} → EachAdvances (λ _. Keeps) old mid
+pub at_after_room : (covers : List Cover) (by : Issuing) {old mid new : BrokenMap} → EachAdvances (λ _. Keeps) old mid
     → EachAdvances (NotesAt covers by) mid new → EachAdvances (NotesAt covers by) old new
 at_after_room covers by a b = each_then (NotesAt covers by) a b (λ m e f g seated. at_over covers by m e f g)
 
-pub among_after_room : (found : List Found) (by : Issuing) {old mid new : BrokenPlaces} → EachAdvances (λ _. Keeps) old mid
+pub among_after_room : (found : List Found) (by : Issuing) {old mid new : BrokenMap} → EachAdvances (λ _. Keeps) old mid
     → EachAdvances (λ _. NotesFound found by) mid new → EachAdvances (λ _. NotesAmong found by) old new
 among_after_room found by a b = each_then (λ _. NotesAmong found by) a b (λ m. among_over found by)
 
 -- more room at one place
-pub keeps_then : {X : Entry → Type 0} {place : ℕ} {old mid new : BrokenPlaces} → EachAdvances (λ _. Keeps) old mid
+pub keeps_then : {X : Entry → Type 0} {place : ℕ} {old mid new : BrokenMap} → EachAdvances (λ _. Keeps) old mid
     → EachAdvances (λ _. AtPlace place (λ e f. Keeps e f × X f)) mid new → EachAdvances (λ _. Keeps) old new
 keeps_then {X} {place} a b =
     each_then (λ _. Keeps) a b (λ m e f g seated h h'.
@@ -140,21 +144,3 @@ keeps_then {X} {place} a b =
       | inr other ↦ (ap (λ (x : Entry). x.marks) (h'.1 other), ap (λ (x : Entry). x.pends.items) (h'.1 other))
     ] in
     (kept.0 ∙ h.0, kept.1 ∙ h.1))
-
--- what is left to do where room was made at an entry, or a TLBI noted
-module _ (old new : Entries) (k : ℕ) (e f : Entry) (was : slice_get old.list.items k ≡ Some e) (seated : position f ≡ position e)
-    (gets : (i : ℕ) → slice_get new.list.items i ≡ (if nat_eq i k then Some f else slice_get old.list.items i)) (same : new.cells ≡ old.cells) where
-  pub listed_made : Keeps e f → (w : Work) → Listed w old.cells.items old.list.items → Listed w new.cells.items new.list.items
-  listed_made kept w listed =
-      let L : Vec ℕ Global → Type 0 = λ v. Listed w v.items new.list.items in
-      subst L (sym same) (listed_roomed old.cells.items old.list.items new.list.items
-      (one_advances Keeps old.list.items new.list.items k e f was seated kept gets (λ m x _ _. (refl, refl))) w listed)
-
-  pub listed_after : (by : Issuing) (w : Work) (lists : Vec WorkList Global) → OnlyNotes old new w.waiting.items lists.items → KeepsOthers by.issuer e f
-      → Waits lists.items by.issuer e f → Listed w old.cells.items old.list.items → Listed (record w { waiting = lists }) new.cells.items new.list.items
-  listed_after by w lists rest others waits listed =
-      let L : Vec ℕ Global → Type 0 = λ v. Listed (record w { waiting = lists }) v.items new.list.items in
-      subst L (sym same) (listed_noted old.cells.items old.list.items new.list.items by w lists old.linked
-      (one_advances (KeepsOthers by.issuer) old.list.items new.list.items k e f was seated others gets (λ m x _ _. (refl, λ q _. refl)))
-      (one_advances (Waits lists.items by.issuer) old.list.items new.list.items k e f was seated waits gets (λ m x _ _ wide. inr (λ quiet. quiet)))
-      rest.kept listed)

@@ -3,6 +3,8 @@ pub mod Made
 pub mod Lists
 pub mod Points
 pub mod Seats
+pub mod Numbers
+pub mod Seated
 pub mod Edits
 pub mod Linking
 pub mod Leaving

@@ -7,9 +7,11 @@ use Rattle.bbm_place_map.proofs.Common.{pends_of, pends_in, Keeps, marks_in, pen
 use Rattle.bbm_place_map.proofs.Common.{IsTold, Waits, is_clean, Entry, Barrier, Issuing, Pending, WorkList, Vec}
 use Rattle.bbm_place_map.proofs.Common.{Global, PeMask, Publish, Complete, Rests, waits, pe_in, Work, nil_from_length}
 use Rattle.bbm_place_map.proofs.Common.{put_here, put_away, either}
-use Rattle.bbm_place_map.proofs.Common.{ClearsCells, Entries, KeepsOthers, entry_of_cell}
+use Rattle.bbm_place_map.proofs.Common.{ClearsCells, Entries, KeepsOthers, entry_of_cell, position}
+use Rattle.bbm_place_map.specs.Parts.{AddsCells}
+use Rattle.bbm_place_map.specs.PlaceNotes.{OnlyNotes}
 use Rattle.bbm_place_map.specs.Works.{IsToldAsBefore, GivesUp, Listed}
-use Rattle.bbm_place_map.proofs.Advancing.{of_cell, by_entries, column_kept}
+use Rattle.bbm_place_map.proofs.Advancing.{of_cell, by_entries, column_kept, one_advances}
 use Rattle.bbm_place_map.proofs.Idle.{idle_from, quiet_from, none_kept}
 use Rattle.bbm_place_map.proofs.Knowing.{known_or, or_known, quiet_of_rest, told_from}
 use Rattle.bbm_lemmas.proofs.Every.{every_none}
@@ -277,14 +279,40 @@ listed_noted cells mid new by w lists linked noted waits grown listed =
     listed
 
 -- an entry of a page that is cleared is gone, and any other one stays
-pub gone_or_same : (gone : Bool) (o p : Option Entry) → p ≡ (if gone then None else o) → (p ≡ None) ⊎ (p ≡ o)
+gone_or_same : (gone : Bool) (o p : Option Entry) → p ≡ (if gone then None else o) → (p ≡ None) ⊎ (p ≡ o)
 gone_or_same true o p is = inl is
 gone_or_same false o p is = inr is
 
 -- some cells were cleared
-pub listed_cleared : (these : ℕ → Bool) (old new : Entries) (w : Work) → ClearsCells these old new → Listed w old.cells.items old.list.items
-    → Listed w new.cells.items new.list.items
-listed_cleared these old new w e =
+pub listed_cleared : {these : ℕ → Bool} {old new : Entries} {w : Work} → ClearsCells these old new
+    → Listed w old.cells.items old.list.items → Listed w new.cells.items new.list.items
+listed_cleared {these} {old} {new} {w} e =
     listed_fewer w w.unpublished w.waiting old.cells.items new.cells.items old.list.items new.list.items
     (λ wide q j holds. holds) (λ wide q j holds. holds)
     (λ j. gone_or_same (these j) (entry_of_cell old j) (entry_of_cell new j) (e.entries j))
+
+-- cells were added
+pub listed_added : {old new : Entries} {w : Work} → AddsCells old new → Listed w old.cells.items old.list.items
+    → Listed w new.cells.items new.list.items
+listed_added {old} {new} {w} e =
+    listed_fewer w w.unpublished w.waiting old.cells.items new.cells.items old.list.items new.list.items
+    (λ wide q j holds. holds) (λ wide q j holds. holds)
+    (λ j. inr (ap (λ (v : Vec Entry Global). entry_in new.cells.items v.items j) e.list ∙ ap (entry_of old.list.items) (e.slots j)))
+
+-- what is left to do where room was made at an entry, or a TLBI noted
+module _ (old new : Entries) (k : ℕ) (e f : Entry) (was : slice_get old.list.items k ≡ Some e) (seated : position f ≡ position e)
+    (gets : (i : ℕ) → slice_get new.list.items i ≡ (if nat_eq i k then Some f else slice_get old.list.items i)) (same : new.cells ≡ old.cells) where
+  pub listed_made : Keeps e f → (w : Work) → Listed w old.cells.items old.list.items → Listed w new.cells.items new.list.items
+  listed_made kept w listed =
+      let L : Vec ℕ Global → Type 0 = λ v. Listed w v.items new.list.items in
+      subst L (sym same) (listed_roomed old.cells.items old.list.items new.list.items
+      (one_advances Keeps old.list.items new.list.items k e f was seated kept gets (λ m x _ _. (refl, refl))) w listed)
+
+  pub listed_after : (by : Issuing) (w : Work) (lists : Vec WorkList Global) → OnlyNotes old new w.waiting.items lists.items → KeepsOthers by.issuer e f
+      → Waits lists.items by.issuer e f → Listed w old.cells.items old.list.items → Listed (record w { waiting = lists }) new.cells.items new.list.items
+  listed_after by w lists rest others waits listed =
+      let L : Vec ℕ Global → Type 0 = λ v. Listed (record w { waiting = lists }) v.items new.list.items in
+      subst L (sym same) (listed_noted old.cells.items old.list.items new.list.items by w lists old.linked
+      (one_advances (KeepsOthers by.issuer) old.list.items new.list.items k e f was seated others gets (λ m x _ _. (refl, λ q _. refl)))
+      (one_advances (Waits lists.items by.issuer) old.list.items new.list.items k e f was seated waits gets (λ m x _ _ wide. inr (λ quiet. quiet)))
+      rest.kept listed)

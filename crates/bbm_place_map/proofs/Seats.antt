@@ -1,6 +1,7 @@
 -- Cells and the entries that they name.
 use Rattle.bbm_place_map.proofs.Common.{List, None, Option, Some, ap, refl, slice_get, sym, ℕ, ◌∙◌, ◌≡◌, same_Some}
 use Rattle.bbm_place_map.proofs.Common.{option_map, Marks, slot_in, entry_in, entry_of, marks_of, Linked, Entry}
+use Rattle.bbm_place_map.proofs.Common.{false≢true, loses_table, true, length, slice_get_cases, arith, inl, inr, ◌<◌}
 
 abbrev pub the_cell : Entry → ℕ
 the_cell e = e.cell
@@ -18,6 +19,19 @@ pub marked : (o : Option Entry) (marks : Marks) → marks_of o ≡ Some marks �
 marked None marks is = cc
 marked (Some e) marks is = (e, refl, same_Some e.marks marks is)
 
+-- an entry that lost a table was there
+pub entry_lost : (o : Option Entry) (new : Option Marks) → loses_table (marks_of o) new ≡ true → (e : Entry) × (o ≡ Some e)
+entry_lost None new h = absurd (false≢true h)
+entry_lost (Some e) new h = (e, refl)
+
+-- there is an entry with each number below that of all
+pub entry_there : (entries : List Entry) (i : ℕ) → i < length entries → (e : Entry) × (slice_get entries i ≡ Some e)
+entry_there entries i within =
+    elim ((slice_get_cases entries i).1) [
+      | inl is ↦ (is.0, is.2)
+      | inr past ↦ absurd (omega (arith, past.0))
+    ]
+
 module _ {cells : List ℕ} {entries : List Entry} (linked : Linked cells entries) where
   seat_in : (j : ℕ) (s : Option ℕ) → slot_in cells j ≡ s → (e : Entry) → entry_of entries s ≡ Some e
       → (k : ℕ) × (slot_in cells j ≡ Some k) × (slice_get entries k ≡ Some e) × (e.cell ≡ j)
@@ -28,6 +42,3 @@ module _ {cells : List ℕ} {entries : List Entry} (linked : Linked cells entrie
   pub seat_of : (j : ℕ) (e : Entry) → entry_in cells entries j ≡ Some e
       → (k : ℕ) × (slot_in cells j ≡ Some k) × (slice_get entries k ≡ Some e) × (e.cell ≡ j)
   seat_of j e is = seat_in j (slot_in cells j) refl e is
-
-  pub seated_at : (k : ℕ) (e : Entry) → slice_get entries k ≡ Some e → entry_in cells entries e.cell ≡ Some e
-  seated_at k e is = ap (entry_of entries) (linked.back e.cell k (ap (option_map the_cell) is)) ∙ is

@@ -1,6 +1,6 @@
 -- Entries: what is kept of the broken places, and of each the TLBIs that wait for their answers.
 -- Source: project's own choice.
-use Rattle.std.specs.Prelude.{◌≡◌, ◌+◌, ℕ, Bool, true, false, cond, Option, Some, None, List, [], ◌∷◌, nat_eq, ◌<◌}
+use Rattle.std.specs.Prelude.{◌≡◌, ◌+◌, ℕ, suc, Bool, true, false, cond, Option, Some, None, List, [], ◌∷◌, nat_eq, ◌<◌}
 use Rattle.std.specs.Prelude.{length}
 use Rattle.std.specs.Prelude.{slice_index_or, slice_get, if◌then◌else◌, ◌&&◌, ◌||◌}
 use Rattle.std.specs.Option.{option_map}
@@ -42,7 +42,12 @@ pends_in ps q = record { broadcast = pend_in ps (lane_of q true); local = pend_i
 abbrev pub cell_at : List Entry → ℕ → Option ℕ
 cell_at entries k = option_map (λ (e : Entry). e.cell) (slice_get entries k)
 
--- the entry of a cell
+-- the number of the entry of a value's place; None where the place has none
+abbrev pub number_by : List Entry → ℕ → Option ℕ
+number_by [] j = None
+number_by (e ∷ es) j = if nat_eq e.index j then Some 0 else option_map (λ n. suc n) (number_by es j)
+
+-- the entry with a number
 abbrev pub entry_of : List Entry → Option ℕ → Option Entry
 entry_of entries None = None
 entry_of entries (Some k) = slice_get entries k

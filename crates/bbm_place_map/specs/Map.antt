@@ -9,7 +9,7 @@ use Rattle.bbm_entry_state.specs.declared.pending.Pends.{Pends}
 use Rattle.bbm_entry_state.specs.declared.state.EntryState.{EntryState}
 use Rattle.bbm_page_map.specs.PageLists.{number_in}
 use Rattle.bbm_place_map.specs.Cells.{value_in}
-use Rattle.bbm_place_map.specs.ByNumber.{entries_in, entry_at}
+use Rattle.bbm_place_map.specs.ByNumber.{entry_at}
 use Rattle.bbm_place_map.specs.Entries.{marks_of, pends_of}
 use Rattle.bbm_place_map.specs.Sound.{index_of, at_index, bases}
 use Rattle.bbm_place_map.specs.States.{state_from}
@@ -51,10 +51,10 @@ IsPosition map position = number_in (pages_of map) (page_of position.place) ≡ 
 
 -- how many places are broken, and one of them by its number
 unfoldable pub restless_in : PlaceMap → ℕ
-restless_in map = length (entries_in map.broken)
+restless_in map = length map.broken.entries
 
 unfoldable pub restless_place : PlaceMap → ℕ → ℕ
-restless_place map i = unwrap_or (option_map (λ (e : Entry). e.place) (slice_get (entries_in map.broken) i)) 0
+restless_place map i = unwrap_or (option_map (λ (e : Entry). e.place) (slice_get map.broken.entries i)) 0
 
 -- the state of a place, where one that isn't broken is live with this core, or clean without one
 abbrev pub state_at : PlaceMap → Option Core → ℕ → EntryState

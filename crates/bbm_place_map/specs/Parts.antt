@@ -1,7 +1,8 @@
 -- What is kept of each cell, and which cells the pages have.
 -- Source: project's own choice.
 use Rattle.std.specs.Prelude.{◌≡◌, ℕ, ◌*◌, ◌^◌, ◌<◌, ◌≤◌, Option, Some, List, length, count_by, slice_get, vec_len}
-use Rattle.std.specs.Prelude.{vec_capacity}
+use Rattle.std.specs.Prelude.{vec_capacity, ◌+◌, ◌&&◌, Bool, Vec, nat_le, nat_lt}
+use Rattle.std.specs.declared.alloc.Global.{Global}
 use Rattle.bbm_entry_state.specs.declared.marks.Marks.{Marks}
 use Rattle.bbm_entry_state.specs.declared.pending.Pends.{Pends}
 use Rattle.bbm_place_map.specs.Cells.{cell_by, is_listed, slot_in}
@@ -31,3 +32,14 @@ pub record IsSound (parts : List ℕ) (entries : Entries) : Type 0 where
   pub space : 512 * length parts ≤ vec_capacity entries.cells
   pub room : 512 * length parts ≤ vec_capacity entries.list
   pub few : 512 * length parts < 2 ^ 32
+
+-- whether there is room for the cells of one more page, and for an entry of each
+abbrev pub has_room_for_page : Vec ℕ Global → Entries → Bool
+has_room_for_page parts entries =
+    nat_lt (vec_len parts) (vec_capacity parts) && nat_le (512 * (vec_len parts + 1)) (vec_capacity entries.cells)
+    && nat_le (512 * (vec_len parts + 1)) (vec_capacity entries.list) && nat_lt (512 * (vec_len parts + 1)) (2 ^ 32)
+
+-- Each cell has the entry that it had, and no entry changes. There may be more cells, which have none.
+pub record AddsCells (old new : Entries) : Type 0 where
+  pub slots : (i : ℕ) → slot_in new.cells.items i ≡ slot_in old.cells.items i
+  pub list : new.list ≡ old.list

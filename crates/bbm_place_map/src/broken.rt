@@ -12,8 +12,7 @@ ghost use Rattle.bbm_place_map.specs.Cells.{cell_by, in_page, slot_in};
 ghost use Rattle.bbm_place_map.specs.Dsbs.{HasEffect};
 ghost use Rattle.bbm_place_map.specs.Entries.{HasRoom, lane_of};
 ghost use Rattle.bbm_place_map.specs.PlaceNotes.{Keeps, NotesAs, is_cover};
-ghost use Rattle.bbm_place_map.specs.Parts.{IsSound};
-ghost use Rattle.bbm_place_map.specs.Works.{Listed};
+ghost use Rattle.bbm_place_map.specs.Parts.{AddsCells, IsSound};
 ghost use Rattle.bbm_place_map.specs.declared.entry.Entry.{Entry as TheEntry};
 
 use crate::entries::{Entries, put_slot};
@@ -29,6 +28,7 @@ use bbm_entry_state::Marks;
 use bbm_regimes::{NoMemory, Pe, Place};
 use bbm_tlbi_scope::Cover;
 use std::alloc::Global;
+use std::marker::Model;
 
 /// The number of pages whose places may be kept.
 const MAX_PAGES: usize = 1 << 22;
@@ -42,18 +42,69 @@ pub struct BrokenPlaces {
     parts: Vec<u32>,
     entries: Entries,
     work: Work,
-    ghost sound: { IsSound parts.items entries },
-    ghost listed: { Listed work entries.cells.items entries.list.items },
+}
+
+impl Model for BrokenPlaces {
+    ghost use Rattle.std.specs.Prelude.{vec_len};
+    ghost use Rattle.bbm_place_map.specs.ByNumber.{BrokenMap};
+    ghost use Rattle.bbm_place_map.specs.Parts.{IsSound, has_room_for_page};
+    ghost use Rattle.bbm_place_map.specs.Works.{Listed};
+
+    ghost Value = { BrokenMap };
+
+    ghost view = { λ b. record {
+      pages = vec_len b.parts;
+      has_room = has_room_for_page b.parts b.entries;
+      entries = b.entries.list.items;
+    } };
+
+    ghost invariant = { λ b. IsSound b.parts.items b.entries
+        × Listed b.work b.entries.cells.items b.entries.list.items };
+}
+
+/// Makes the cells of a page, which has none. The number of the first.
+#[cold]
+#[inline(never)]
+fn add_part(parts: &mut Vec<u32>, entries: &mut Entries, page: usize) -> usize
+    requires sound { IsSound parts.old.items entries.old }
+    requires within { page < vec_len parts.old }
+    requires none { slot_in parts.old.items page ≡ None }
+    ensures sound { IsSound parts.new.items entries.new }
+    ensures start { slot_in parts.new.items page ≡ Some result }
+    ensures few { result < 2 ^ 32 }
+    ensures pages { vec_len parts.new ≡ vec_len parts.old }
+    ensures added { AddsCells entries.old entries.new }
+{
+    let start = entries.cells.len();
+    entries.add_cells(VALUES);
+    put_slot(parts, page, Some(start as u32));
+    start
+}
+
+/// The number of the cell of a place. Where its page has no cells it gets them.
+#[inline(always)]
+fn cell_of(parts: &mut Vec<u32>, entries: &mut Entries, j: usize) -> usize
+    requires sound { IsSound parts.old.items entries.old }
+    requires within { j < VALUES * vec_len parts.old }
+    ensures sound { IsSound parts.new.items entries.new }
+    ensures cell { cell_by parts.new.items j ≡ Some result }
+    ensures pages { vec_len parts.new ≡ vec_len parts.old }
+    ensures added { AddsCells entries.old entries.new }
+{
+    match read::cell(parts, j) {
+        Some(i) => i,
+        None => add_part(parts, entries, j / VALUES) + j % VALUES,
+    }
 }
 
 impl BrokenPlaces {
-    ghost use Rattle.bbm_place_map.specs.ByNumber.{Breaks, ChangesOne, Clears, HasPageRoom, HoldsSame, SameEntries};
-    ghost use Rattle.bbm_place_map.specs.ByNumber.{VisitsPlaces, entries_in, entry_at, number_at, pages_in};
+    ghost use Rattle.bbm_place_map.specs.ByNumber.{Breaks, ChangesOne, Clears, HoldsSame, IsOnce, VisitsPlaces};
+    ghost use Rattle.bbm_place_map.specs.ByNumber.{entry_at, number_at};
 
     /// No page, and so no broken place. It takes no memory.
     pub fn new(alloc: Global) -> BrokenPlaces
-        ensures pages { pages_in result ≡ 0 }
-        ensures list { entries_in result ≡ [] }
+        ensures pages { result.pages ≡ 0 }
+        ensures entries { result.entries ≡ [] }
     {
         BrokenPlaces {
             alloc,
@@ -63,9 +114,17 @@ impl BrokenPlaces {
         }
     }
 
+    /// Each place has one entry at most. The call does nothing; the law is its contract.
+    #[inline(always)]
+    pub fn law_once(&self)
+        ensures { IsOnce self.now }
+    {
+        let _ = self.entries.list.len();
+    }
+
     /// Makes room for the places of one more page. Whether there is.
     pub fn reserve_page(&mut self) -> bool
-        ensures room { result ≡ true → HasPageRoom self.new }
+        ensures room { result ≡ true → self.new.has_room ≡ true }
         ensures same { HoldsSame self.old self.new }
     {
         let pages = self.parts.len() + 1;
@@ -77,9 +136,9 @@ impl BrokenPlaces {
 
     /// Adds the places of one more page, none of which is broken, where there is room for them.
     pub fn add_page(&mut self)
-        requires { HasPageRoom self.old }
-        ensures pages { pages_in self.new ≡ pages_in self.old + 1 }
-        ensures same { SameEntries self.old self.new }
+        requires { self.old.has_room ≡ true }
+        ensures pages { self.new.pages ≡ self.old.pages + 1 }
+        ensures entries { self.new.entries ≡ self.old.entries }
     {
         write::add_cells(&mut self.parts, 1);
         work::make_lists(&mut self.work.unpublished, self.alloc);
@@ -89,7 +148,7 @@ impl BrokenPlaces {
     /// How many places are broken.
     #[inline(always)]
     pub fn len(&self) -> usize
-        ensures { result ≡ length (entries_in self.now) }
+        ensures { result ≡ length self.now.entries }
     {
         self.entries.list.len()
     }
@@ -97,8 +156,8 @@ impl BrokenPlaces {
     /// One of the entries, by its number.
     #[inline(always)]
     pub fn item(&self, k: usize) -> &Entry
-        requires { k < length (entries_in self.now) }
-        ensures { slice_get (entries_in self.now) k ≡ Some result.now }
+        requires { k < length self.now.entries }
+        ensures { slice_get self.now.entries k ≡ Some result.now }
     {
         &self.entries.list[k]
     }
@@ -106,7 +165,7 @@ impl BrokenPlaces {
     /// The number of the entry of a place; None where the place isn't broken.
     #[inline(always)]
     pub fn number(&self, j: usize) -> Option<u32>
-        requires { j < VALUES * pages_in self.now }
+        requires { j < VALUES * self.now.pages }
         ensures { result ≡ number_at self.now j }
     {
         self.entries.number(read::cell(&self.parts, j)?)
@@ -115,7 +174,7 @@ impl BrokenPlaces {
     /// The entry of a place; None where the place isn't broken.
     #[inline(always)]
     pub fn entry(&self, j: usize) -> Option<&Entry>
-        requires { j < VALUES * pages_in self.now }
+        requires { j < VALUES * self.now.pages }
         ensures { option_copied result ≡ entry_at self.now j }
     {
         self.entries.get(read::cell(&self.parts, j)?)
@@ -132,44 +191,15 @@ impl BrokenPlaces {
         }
     }
 
-    /// The number of the cell of a place. Where its page has no cells it gets them, which changes nothing else.
-    #[inline(always)]
-    fn cell(&mut self, j: usize) -> usize
-        requires { j < VALUES * pages_in self.old }
-        ensures cell { cell_by self.new.parts.items j ≡ Some result }
-        ensures same { HoldsSame self.old self.new }
-    {
-        match read::cell(&self.parts, j) {
-            Some(i) => i,
-            None => self.add_part(j / VALUES) + j % VALUES,
-        }
-    }
-
-    /// Makes the cells of a page, which has none. The number of the first.
-    #[cold]
-    #[inline(never)]
-    fn add_part(&mut self, page: usize) -> usize
-        requires within { page < pages_in self.old }
-        requires none { slot_in self.old.parts.items page ≡ None }
-        ensures start { slot_in self.new.parts.items page ≡ Some result }
-        ensures few { result < 2 ^ 32 }
-        ensures same { HoldsSame self.old self.new }
-    {
-        let start = self.entries.cells.len();
-        self.entries.add_cells(VALUES);
-        put_slot(&mut self.parts, page, Some(start as u32));
-        start
-    }
-
     /// A place, which isn't broken, breaks over a core by a write of this PE.
     #[inline(always)]
     pub fn break_over(&mut self, j: usize, place: Place, pe: Pe, core: Core)
-        requires within { j < VALUES * pages_in self.old }
+        requires within { j < VALUES * self.old.pages }
         requires whole { entry_at self.old j ≡ None }
         ensures { (marks : TheMarks) × Written (state.Live core) pe None (state.Broken marks)
             × Breaks j place marks self.old self.new }
     {
-        let i = self.cell(j);
+        let i = cell_of(&mut self.parts, &mut self.entries, j);
         let broken = self.entries.list.len();
         work::note_break(&mut self.work, pe, i as u32, broken);
         let marks = Marks::broken_by(core, pe);
@@ -180,10 +210,10 @@ impl BrokenPlaces {
     /// same by any PE.
     #[inline(always)]
     pub fn mark(&mut self, j: usize, place: Place, mostly: Pe, marks: Marks)
-        requires { j < VALUES * pages_in self.old }
+        requires { j < VALUES * self.old.pages }
         ensures { Breaks j place marks self.old self.new }
     {
-        let i = self.cell(j);
+        let i = cell_of(&mut self.parts, &mut self.entries, j);
         let before = self.entries.marks(i);
         let broken = self.entries.list.len();
         work::note_write(&mut self.work, mostly, i as u32, &before, &marks, broken);
@@ -193,7 +223,7 @@ impl BrokenPlaces {
     /// A place isn't broken, and nothing waits there.
     #[inline(always)]
     pub fn clear(&mut self, j: usize)
-        requires { j < VALUES * pages_in self.old }
+        requires { j < VALUES * self.old.pages }
         ensures { Clears (λ i. nat_eq i j) self.old self.new }
     {
         if let Some(i) = read::cell(&self.parts, j) {
@@ -218,17 +248,18 @@ impl BrokenPlaces {
         requires { HasEffect barrier.now.effect barrier.now }
         ensures { VisitsPlaces barrier.now self.old self.new result }
     {
-        if self.entries.list.is_empty() {
+        let broken = self.entries.list.len();
+        if broken == 0 {
             return false;
         }
-        work::begin(&mut self.work, barrier.n, self.entries.list.len());
+        work::begin(&mut self.work, barrier.n, broken);
         visit::visit(&mut self.entries, &mut self.work, barrier)
     }
 
     /// Makes room at an entry for what waits for the answers of a lane. `NoMemory` where there is none.
     #[inline(always)]
     pub fn make_room(&mut self, k: usize, lane: Lane) -> Result<(), NoMemory>
-        requires { k < length (entries_in self.old) }
+        requires { k < length self.old.entries }
         ensures { ChangesOne k (λ e f. Keeps e f × OnOk result (HasRoom f.pends lane)) self.old self.new }
     {
         make_room_at(&mut self.entries, k, lane)
@@ -237,8 +268,8 @@ impl BrokenPlaces {
     /// Notes a TLBI at an entry that is covered so far, if it isn't noted there already, where there is room for its lane.
     #[inline(always)]
     pub fn note(&mut self, k: usize, tlbi: &Issuing, cover: Cover)
-        requires within { k < length (entries_in self.old) }
-        requires ready { (e : TheEntry) → slice_get (entries_in self.old) k ≡ Some e → is_cover cover ≡ true
+        requires within { k < length self.old.entries }
+        requires ready { (e : TheEntry) → slice_get self.old.entries k ≡ Some e → is_cover cover ≡ true
             → HasRoom e.pends (lane_of tlbi.now.issuer tlbi.now.broadcast) }
         ensures { ChangesOne k (NotesAs cover tlbi.now) self.old self.new }
     {

@@ -12,7 +12,7 @@ ghost use Rattle.bbm_place_map.specs.Finds.{is_found};
 ghost use Rattle.bbm_place_map.specs.Sound.{SameSize, bases};
 ghost use Rattle.bbm_place_map.specs.PlaceNotes.{AtPlace, IsNoted, Keeps, NotesAs, NotesAt, NotesFound};
 ghost use Rattle.bbm_place_map.specs.PlaceNotes.{OnlyNotes, Readies, is_cover as spec_is_cover};
-ghost use Rattle.bbm_place_map.specs.ByNumber.{EachAdvances, IsKept, entries_in, entry_number};
+ghost use Rattle.bbm_place_map.specs.ByNumber.{EachAdvances, IsKept, entry_number};
 ghost use Rattle.bbm_place_map.specs.Works.{IsQuiet, Waits};
 ghost use Rattle.bbm_place_map.specs.declared.broken.BrokenPlaces.{BrokenPlaces as TheBroken};
 ghost use Rattle.bbm_place_map.specs.declared.entry.Entry.{Entry as TheEntry};
@@ -143,10 +143,10 @@ pub fn note_entry(
 
 /// Makes room for the lane at each place that is covered. `NoMemory` where there is none.
 pub fn make_room(broken: &mut BrokenPlaces, covers: &[Answer], lane: Lane) -> Result<(), NoMemory>
-    requires { length covers.now ≡ length (entries_in broken.old) }
+    requires { length covers.now ≡ length broken.old.entries }
     ensures each { EachAdvances (λ _. Keeps) broken.old broken.new }
-    ensures ready { OnOk result ((m : ℕ) → Advances (Readies lane covers.now m) (slice_get (entries_in broken.old) m)
-        (slice_get (entries_in broken.new) m)) }
+    ensures ready { OnOk result ((m : ℕ) → Advances (Readies lane covers.now m) (slice_get broken.old.entries m)
+        (slice_get broken.new.entries m)) }
 {
     for k in 0..broken.len() {
         if is_cover(covers[k].get()) {
@@ -159,8 +159,8 @@ pub fn make_room(broken: &mut BrokenPlaces, covers: &[Answer], lane: Lane) -> Re
 /// Notes the TLBI at each place that is covered, where there is room for its lane. The cells of those at which something
 /// waits now are listed for the issuer.
 pub fn note(broken: &mut BrokenPlaces, covers: &[Answer], tlbi: &Issuing)
-    requires len { length covers.now ≡ length (entries_in broken.old) }
-    requires ready { (m : ℕ) (e : TheEntry) → slice_get (entries_in broken.old) m ≡ Some e → (c : TheCover)
+    requires len { length covers.now ≡ length broken.old.entries }
+    requires ready { (m : ℕ) (e : TheEntry) → slice_get broken.old.entries m ≡ Some e → (c : TheCover)
         → slice_get covers.now m ≡ Some c → spec_is_cover c ≡ true
         → HasRoom e.pends (lane_of tlbi.now.issuer tlbi.now.broadcast) }
     ensures { EachAdvances (NotesAt covers.now tlbi.now) broken.old broken.new }
@@ -209,7 +209,7 @@ pub fn make_room_found(
 ) -> Result<(), NoMemory>
     requires { IsKept (bases pages.now) broken.old }
     ensures each { EachAdvances (λ _. Keeps) broken.old broken.new }
-    ensures ready { OnOk result ((m : ℕ) (e : TheEntry) → slice_get (entries_in broken.new) m ≡ Some e
+    ensures ready { OnOk result ((m : ℕ) (e : TheEntry) → slice_get broken.new.entries m ≡ Some e
         → is_found found.now e.place ≡ true → HasRoom e.pends lane) }
 {
     for i in 0..found.len() {
@@ -222,7 +222,7 @@ pub fn make_room_found(
 /// waits there now.
 fn note_for(pages: &PageNumbers, broken: &mut BrokenPlaces, item: Found, tlbi: &Issuing)
     requires sound { IsKept (bases pages.now) broken.old }
-    requires ready { (m : ℕ) (e : TheEntry) → slice_get (entries_in broken.old) m ≡ Some e → e.place ≡ item.place
+    requires ready { (m : ℕ) (e : TheEntry) → slice_get broken.old.entries m ≡ Some e → e.place ≡ item.place
         → HasRoom e.pends (lane_of tlbi.now.issuer tlbi.now.broadcast) }
     ensures { EachAdvances (λ _. AtPlace item.place (NotesAs item.cover tlbi.now)) broken.old broken.new }
 {
@@ -241,7 +241,7 @@ fn note_next(
 )
     requires sound { IsKept (bases pages.now) broken.old }
     requires within { i < length found.now }
-    requires ready { (m : ℕ) (e : TheEntry) → slice_get (entries_in broken.old) m ≡ Some e
+    requires ready { (m : ℕ) (e : TheEntry) → slice_get broken.old.entries m ≡ Some e
         → is_found found.now e.place ≡ true → is_found (take i found.now) e.place ≡ false
         → HasRoom e.pends (lane_of tlbi.now.issuer tlbi.now.broadcast) }
     ensures { (start : TheBroken) → EachAdvances (λ _. NotesFound (take i found.now) tlbi.now) start broken.old
@@ -257,7 +257,7 @@ fn note_next(
 /// lane. The cells of those at which something waits now are listed for the issuer.
 pub fn note_found(pages: &PageNumbers, broken: &mut BrokenPlaces, found: &[Found], tlbi: &Issuing)
     requires sound { IsKept (bases pages.now) broken.old }
-    requires ready { (m : ℕ) (e : TheEntry) → slice_get (entries_in broken.old) m ≡ Some e
+    requires ready { (m : ℕ) (e : TheEntry) → slice_get broken.old.entries m ≡ Some e
         → is_found found.now e.place ≡ true → HasRoom e.pends (lane_of tlbi.now.issuer tlbi.now.broadcast) }
     ensures { EachAdvances (λ _. NotesFound found.now tlbi.now) broken.old broken.new }
 {

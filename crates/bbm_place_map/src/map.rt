@@ -14,7 +14,6 @@ mod writing;
 
 ghost use Rattle.std.specs.Prelude.{◌≡◌, ◌≤◌, ◌<◌, ◌*◌, length, vec_len};
 ghost use Rattle.std.proofs.Props.{props};
-ghost use Rattle.bbm_place_map.specs.ByNumber.{entries_in, pages_in};
 ghost use Rattle.bbm_place_map.specs.Sound.{Placed, bases};
 
 use crate::broken::BrokenPlaces;
@@ -34,8 +33,8 @@ pub struct PlaceMap {
     values: Vec<u64>,
     broken: BrokenPlaces,
     ghost counted: { 512 * length pages ≡ vec_len values },
-    ghost paged: { pages_in broken ≡ length pages },
-    ghost placed: { Placed (bases pages) (entries_in broken) },
+    ghost paged: { broken.pages ≡ length pages },
+    ghost placed: { Placed (bases pages) broken.entries },
 }
 
 impl PlaceMap {

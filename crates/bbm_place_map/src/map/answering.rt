@@ -83,6 +83,7 @@ impl PlaceMap {
             broadcast,
         };
         let lane = Lane::new(issuer, broadcast);
+        self.broken.law_once();
         issue::make_room(&mut self.broken, covers, lane)?;
         issue::note(&mut self.broken, covers, &tlbi);
         Ok(())
@@ -117,6 +118,7 @@ impl PlaceMap {
             broadcast,
         };
         let lane = Lane::new(issuer, broadcast);
+        self.broken.law_once();
         issue::make_room_found(&self.pages, &mut self.broken, found, lane)?;
         issue::note_found(&self.pages, &mut self.broken, found, &tlbi);
         Ok(())

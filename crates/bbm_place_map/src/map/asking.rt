@@ -204,6 +204,7 @@ impl PlaceMap {
         ensures idle { (q a : ℕ) → marks_at self.now a ≡ None → IsIdle (pends_at self.now q a) }
         ensures aligned { (a : ℕ) → is_some (marks_at self.now a) ≡ true → a % 8 ≡ 0 }
     {
+        self.broken.law_once();
         self.broken.len() as u64
     }
 
@@ -213,6 +214,7 @@ impl PlaceMap {
         ensures place { result ≡ restless_place self.now i }
         ensures broken { is_some (marks_at self.now result) ≡ true }
     {
+        self.broken.law_once();
         self.broken.item(i as usize).place
     }
 
@@ -232,6 +234,7 @@ impl PlaceMap {
         ensures { (marks : TheMarks) × (marks_at self.now (restless_place self.now i) ≡ Some marks)
             × (marks.core ≡ result) }
     {
+        self.broken.law_once();
         self.broken.item(i as usize).marks.core
     }
 

@@ -5,7 +5,6 @@ ghost use Rattle.std.specs.Prelude.{vec_len, vec_capacity, nat_eq};
 ghost use Rattle.bbm_entry_state.specs.declared.state.EntryState.{EntryState as TheState};
 ghost use Rattle.bbm_place_map.specs.MapCalls.{Frees, IsSame, KeepsItems, KeepsBroken, KeepsValues, Leaves, Puts};
 ghost use Rattle.bbm_place_map.specs.MapCalls.{WritesAs};
-ghost use Rattle.bbm_place_map.specs.ByNumber.{HasPageRoom};
 ghost use Rattle.bbm_place_map.specs.Map.{value_at, marks_at, pends_at, is_tracked, IsPosition, page_of};
 ghost use Rattle.bbm_place_map.specs.Map.{pages_of, state_at};
 
@@ -194,7 +193,7 @@ impl PlaceMap {
     /// Makes room for one more page: for its values, and for a broken place of each. Whether there is.
     fn has_room(&mut self) -> bool
         ensures values { result ≡ true → vec_len self.new.values + VALUES ≤ vec_capacity self.new.values }
-        ensures broken { result ≡ true → HasPageRoom self.new.broken }
+        ensures broken { result ≡ true → self.new.broken.has_room ≡ true }
         ensures same { KeepsItems self.old self.new }
     {
         self.broken.reserve_page() && self.values.reserve(VALUES).is_ok()

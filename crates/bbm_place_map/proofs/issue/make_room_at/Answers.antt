@@ -1,6 +1,5 @@
-use Rattle.bbm_place_map.proofs.Common.{ap, ◌∙◌, arith, position, Entry}
+use Rattle.bbm_place_map.proofs.Common.{ap, ◌∙◌, arith, position, Entry, refl}
 use Rattle.bbm_place_map.proofs.Leaving.{entry_same}
-use Rattle.bbm_place_map.proofs.Common.{refl}
 use Rattle.bbm_place_map.proofs.Lists.{set_get}
 use Rattle.bbm_place_map.proofs.Positions.{linked_set}
 use Rattle.bbm_place_map.proofs.issue.make_room_at.Goals as goal

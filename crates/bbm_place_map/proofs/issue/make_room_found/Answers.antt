@@ -1,7 +1,6 @@
-use Rattle.bbm_place_map.proofs.Common.{Advances, AtPlace, Entry, HasRoom, Some, subst, ℕ, ◌≡◌}
-use Rattle.bbm_place_map.proofs.Common.{nat_eq, ap, sym, ◌∙◌, inl, inr, slice_get, take, List, cases_Bool, eq-eqb}
-use Rattle.bbm_place_map.proofs.Common.{eqb-true, false≢true, is_found, Keeps, Found}
-use Rattle.bbm_place_map.proofs.Common.{refl, entries_in}
+use Rattle.bbm_place_map.proofs.Common.{Advances, AtPlace, Entry, HasRoom, Some, subst, ℕ, ◌≡◌, nat_eq, ap, sym, ◌∙◌}
+use Rattle.bbm_place_map.proofs.Common.{inl, inr, slice_get, take, List, cases_Bool, eq-eqb, eqb-true, false≢true}
+use Rattle.bbm_place_map.proofs.Common.{is_found, Keeps, Found, refl}
 use Rattle.bbm_place_map.proofs.Advancing.{advanced_from, self_advances}
 use Rattle.bbm_place_map.proofs.Finding.{found_off, take_more}
 use Rattle.bbm_place_map.proofs.Keeping.{keeps_then, kept_moved, seats_all}
@@ -14,7 +13,7 @@ pub loop-i-init : goal.loop-i-init
 loop-i-init c = record {
   each = record {
     same = seats_all c.args.broken.now;
-    each = λ m. self_advances Keeps (slice_get (entries_in c.args.broken.now) m) (λ x is. (refl, refl));
+    each = λ m. self_advances Keeps (slice_get c.args.broken.now.entries m) (λ x is. (refl, refl));
   };
   ready = λ m e is among. absurd (false≢true among);
 }
@@ -24,7 +23,7 @@ loop-i-preserved c =
     let x = c.index-found-i.result in
     let xs = take c.loop-i.i c.args.found.now in
     let made = c.in_ok-make_room_for.ensures in
-    let mid = entries_in c.loop-i.broken in
+    let mid = c.loop-i.broken.entries in
     record {
       each = keeps_then c.loop-i.invariant.each made;
       ready = λ m e is among.

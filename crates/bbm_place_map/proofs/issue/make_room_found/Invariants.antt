@@ -1,10 +1,10 @@
 use Rattle.bbm_place_map.proofs.Common.{◌≡◌, ℕ, true, Some, slice_get, take, EachAdvances, HasRoom}
-use Rattle.bbm_place_map.proofs.Common.{is_found, Keeps, Entry, entries_in}
+use Rattle.bbm_place_map.proofs.Common.{is_found, Keeps, Entry}
 use Rattle.bbm_place_map.proofs.issue.make_room_found.Given as goal
 
 abbrev pub invariant-loop-i : goal.invariant-loop-i
 invariant-loop-i l = record {
   each : EachAdvances (λ _. Keeps) l.initial.broken l.broken;
-  ready : (m : ℕ) (e : Entry) → slice_get (entries_in l.broken) m ≡ Some e → is_found (take l.i l.found) e.place ≡ true
+  ready : (m : ℕ) (e : Entry) → slice_get l.broken.entries m ≡ Some e → is_found (take l.i l.found) e.place ≡ true
       → HasRoom e.pends l.lane;
 }

@@ -1,7 +1,6 @@
 use Rattle.bbm_place_map.proofs.Common.{ap, sym, ◌∙◌, arith, subst, ◌↔◌, IsTrue, false≢true, Noted, position, pends_in}
-use Rattle.bbm_place_map.proofs.Common.{IsQuiet, Entry}
+use Rattle.bbm_place_map.proofs.Common.{IsQuiet, Entry, refl}
 use Rattle.bbm_place_map.proofs.Leaving.{entry_same}
-use Rattle.bbm_place_map.proofs.Common.{refl}
 use Rattle.bbm_place_map.proofs.Lists.{set_get}
 use Rattle.bbm_place_map.proofs.Positions.{linked_set}
 use Rattle.bbm_place_map.proofs.Noting.{quiet_noted}

@@ -1,11 +1,11 @@
-use Rattle.bbm_place_map.proofs.Common.{ap, sym, ◌∙◌, same_Some, slice_get_within, Entry, NotesAs, entries_in}
+use Rattle.bbm_place_map.proofs.Common.{ap, sym, ◌∙◌, same_Some, slice_get_within, Entry, NotesAs}
 use Rattle.bbm_place_map.proofs.Keeping.{place_changed, place_none, place_of_number}
 use Rattle.bbm_place_map.proofs.issue.note_for.Goals as goal
 
 pub note-requires-clause-within : goal.note-requires-clause-within
 note-requires-clause-within c =
     let e = place_of_number c.requires.sound c.args.item.place c.in-Some.k (sym c.entry_of.ensures ∙ c.in-Some.is) in
-    slice_get_within (entries_in c.args.broken.now) c.in-Some.k e.0 e.1
+    slice_get_within c.args.broken.now.entries c.in-Some.k e.0 e.1
 
 pub note-requires-clause-ready : goal.note-requires-clause-ready
 note-requires-clause-ready c = λ x is cover.

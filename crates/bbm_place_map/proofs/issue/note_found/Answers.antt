@@ -1,5 +1,5 @@
 use Rattle.bbm_place_map.proofs.Common.{Option, arith, refl, List, subst, take, slice_get, Advances, EachAdvances}
-use Rattle.bbm_place_map.proofs.Common.{NotesFound, Entry, Found, NoCover, entries_in}
+use Rattle.bbm_place_map.proofs.Common.{NotesFound, Entry, Found, NoCover}
 use Rattle.std.proofs.lemmas.List.{take_all}
 use Rattle.bbm_place_map.proofs.Advancing.{self_advances}
 use Rattle.bbm_place_map.proofs.Keeping.{kept_moved, seats_all}
@@ -11,7 +11,7 @@ pub loop-i-init : goal.loop-i-init
 loop-i-init c = record {
   same = seats_all c.args.broken.now;
   each = λ m.
-      self_advances (NotesFound (take 0 c.args.found.now) c.args.tlbi.now) (slice_get (entries_in c.args.broken.now) m)
+      self_advances (NotesFound (take 0 c.args.found.now) c.args.tlbi.now) (slice_get c.args.broken.now.entries m)
       (λ x is. (not_noted NoCover c.args.tlbi.now x refl, λ none. refl));
 }
 
@@ -21,9 +21,9 @@ note_next-requires-clause-sound c = kept_moved c.requires.sound c.loop-i.invaria
 pub note_next-requires-clause-ready : goal.note_next-requires-clause-ready
 note_next-requires-clause-ready c = λ m e is among none.
     c.requires.ready m e
-    (unfound_kept (take c.loop-i.i c.args.found.now) c.args.tlbi.now (slice_get (entries_in c.args.broken.now) m) e
+    (unfound_kept (take c.loop-i.i c.args.found.now) c.args.tlbi.now (slice_get c.args.broken.now.entries m) e
     (let P : Option Entry → Type 0 = λ o. Advances (NotesFound (take c.loop-i.i c.args.found.now) c.args.tlbi.now)
-    (slice_get (entries_in c.args.broken.now) m) o in
+    (slice_get c.args.broken.now.entries m) o in
     subst P is (c.loop-i.invariant.each m)) none)
     among
 

@@ -1,6 +1,5 @@
 use Rattle.bbm_place_map.proofs.Common.{[], ◌∷◌, ◌++◌, ap, sym, ◌∙◌, List, subst, take, EachAdvances, is_found}
-use Rattle.bbm_place_map.proofs.Common.{slice_get, entries_in}
-use Rattle.bbm_place_map.proofs.Common.{NotesFound, Found}
+use Rattle.bbm_place_map.proofs.Common.{slice_get, NotesFound, Found}
 use Rattle.bbm_place_map.proofs.Advancing.{advance_by}
 use Rattle.bbm_place_map.proofs.Finding.{found_at, take_more}
 use Rattle.bbm_place_map.proofs.Keeping.{each_then}
@@ -32,5 +31,5 @@ returns-else-not-is_among c = λ start before.
       same = before.same;
       each = λ m.
           advance_by (NotesFound xs by) (NotesFound (xs ++ x ∷ []) by) (skip_step xs x by (sym c.is_among.ensures ∙ c.if-not-is_among.false))
-          (slice_get (entries_in start) m) (slice_get (entries_in c.args.broken.now) m) (before.each m);
+          (slice_get start.entries m) (slice_get c.args.broken.now.entries m) (before.each m);
     })

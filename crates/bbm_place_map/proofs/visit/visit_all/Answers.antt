@@ -1,6 +1,6 @@
 use Rattle.bbm_place_map.proofs.Common.{List, Some, ap, arith, length, ℕ, ◌-◌, ◌<◌, ◌≡◌, ◌≤◌, option_map, cell_at}
 use Rattle.bbm_place_map.proofs.Common.{entry_in, Entry}
-use Rattle.bbm_place_map.proofs.Restless.{entry_there}
+use Rattle.bbm_place_map.proofs.Seats.{entry_there}
 use Rattle.bbm_place_map.proofs.Rounds.{no_more, no_visit, past_visited, rounded_more, rounded_none}
 use Rattle.bbm_place_map.proofs.Rounds.{visit_then, visited_more}
 use Rattle.bbm_place_map.proofs.visit.visit_all.Goals as goal

@@ -1,6 +1,6 @@
 use Rattle.bbm_place_map.proofs.Common.{arith, sym, subst, false, Effect, Publish}
 use Rattle.bbm_place_map.specs.Dsbs.{HasEffect, VisitsAt}
-use Rattle.bbm_place_map.proofs.Restless.{entry_there}
+use Rattle.bbm_place_map.proofs.Seats.{entry_there}
 use Rattle.bbm_place_map.proofs.Rounds.{visit_stays}
 use Rattle.bbm_place_map.proofs.visit.visit_at.Goals as goal
 

@@ -1,6 +1,5 @@
-use Rattle.bbm_place_map.proofs.Common.{ℕ, List, None, ap, sym, ◌∙◌, nat_eq, refl, split_at, at_index, cell_by}
-use Rattle.bbm_place_map.proofs.Common.{entry_of_cell, entry_at, vec_len}
-use Rattle.bbm_place_map.proofs.Held.{sound_seated}
+use Rattle.bbm_place_map.proofs.Common.{◌≡◌, Some, None, ap, nat_eq, refl, split_at, cell_by, entry_of_cell, if◌then◌else◌, vec_len, ◌∙◌}
+use Rattle.bbm_place_map.proofs.Held.{by_cells, entry_by, entry_without_cell, sound_seated}
 use Rattle.bbm_place_map.proofs.Listing.{listed_cleared}
 use Rattle.bbm_place_map.proofs.Positions.{seats_same}
 use Rattle.bbm_place_map.proofs.Reaching.{cell_once, put_through}
@@ -8,33 +7,31 @@ use Rattle.bbm_place_map.proofs.broken.BrokenPlaces.clear.Goals as goal
 
 pub invariant_of-self : goal.invariant_of-self
 invariant_of-self c =
-    let self = c.args.self.now in
-    let e = c.clear.ensures in
-    record {
-      sound = sound_seated self.parts.items self.entries c.clear.new.self e.sound self.sound;
-      listed = listed_cleared (λ i. nat_eq i c.in-Some.i) self.entries c.clear.new.self self.work e self.listed;
-    }
+    let e = c.clear.ensures in (sound_seated e.sound c.self.invariant.0, listed_cleared e c.self.invariant.1)
 
 pub returns-in-Some : goal.returns-in-Some
 returns-in-Some c =
-    let self = c.args.self.now in
+    let self = c.self.inside in
+    let sound = c.self.invariant.0 in
+    let new = c.clear.new.self in
     let e = c.clear.ensures in
-    let at = ap (λ (xs : List ℕ). cell_by xs c.args.j) (sym c.deref.ensures.value) ∙ sym c.cell.ensures ∙ c.in-Some.is in
-    record {
+    let at : cell_by self.parts.items c.args.j ≡ Some c.in-Some.i = rw (← c.deref.ensures.value, ← c.cell.ensures) c.in-Some.is in
+    rw (← c.self.view_is) (record {
       pages = refl;
       seats = e.sound.seats;
-      entries =
-          put_through (cell_by self.parts.items) None None (entry_of_cell self.entries) (entry_of_cell c.clear.new.self) c.args.j c.in-Some.i at
-          (λ y h. cell_once self.parts.items (vec_len self.entries.cells) self.sound.numbered y c.args.j c.in-Some.i h at) e.entries;
-    }
+      entries = λ i. by_cells sound (sound_seated e.sound sound)
+          (λ o p. p ≡ (if nat_eq i c.args.j then None else o)) i
+          (put_through (cell_by self.parts.items) None None (entry_of_cell self.entries) (entry_of_cell new) c.args.j c.in-Some.i at
+          (λ y h. cell_once self.parts.items (vec_len self.entries.cells) sound.numbered y c.args.j c.in-Some.i h at) e.entries i);
+    })
 
 pub returns-in_default : goal.returns-in_default
 returns-in_default c =
-    let self = c.args.self.now in
-    let none = ap (at_index None (entry_of_cell self.entries))
-    (ap (λ (xs : List ℕ). cell_by xs c.args.j) (sym c.deref.ensures.value) ∙ sym c.cell.ensures ∙ c.in_default.is) in
-    record {
+    let self = c.self.inside in
+    let at : cell_by self.parts.items c.args.j ≡ None = rw (← c.deref.ensures.value, ← c.cell.ensures) c.in_default.is in
+    let list = self.entries.list.items in
+    rw (← c.self.view_is) (record {
       pages = refl;
-      seats = seats_same self.entries.list.items;
-      entries = λ i. split_at i c.args.j (λ same. ap (entry_at self) same ∙ none) (λ _. refl);
-    }
+      seats = seats_same list;
+      entries = λ i. split_at i c.args.j (λ same. ap (entry_by list) same ∙ entry_without_cell c.self.invariant.0 c.args.j at) (λ _. refl);
+    })

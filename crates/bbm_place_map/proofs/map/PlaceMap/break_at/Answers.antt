@@ -1,9 +1,7 @@
-use Rattle.bbm_place_map.proofs.Bases.{numbered_in}
-use Rattle.bbm_place_map.proofs.Common.{refl, vec_len, bases, value_in, arith, sym, ap, ◌∙◌, false≢true, Broken}
-use Rattle.bbm_place_map.proofs.Common.{at_index, None, entry_at, place_entry}
+use Rattle.bbm_place_map.proofs.Common.{refl, arith, sym, ap, ◌∙◌, false≢true, Broken, at_index, None, entry_at}
+use Rattle.bbm_place_map.proofs.Common.{place_entry}
 use Rattle.bbm_place_map.proofs.Blank.{no_entry}
-use Rattle.bbm_place_map.proofs.Clearing.{fits_put, marks_broken, pends_broken}
-use Rattle.bbm_place_map.proofs.Places.{at_place}
+use Rattle.bbm_place_map.proofs.Clearing.{fits_put, marks_broken, pends_broken, value_put}
 use Rattle.bbm_place_map.specs.Map.{pages_of, marks_at, pends_at, value_at, IsPosition}
 use Rattle.bbm_place_map.proofs.map.PlaceMap.break_at.Goals as goal
 
@@ -22,30 +20,22 @@ break_over-requires-clause-whole c =
 pub invariant_of-self : goal.invariant_of-self
 unfolding IsPosition
 invariant_of-self c =
-    let breaks = c.break_over.ensures.2 in
-    fits_put c.args.self.now c.put_value.new.values c.break_over.new.self c.put_value.ensures.len breaks.pages c.value_number-j.result
-    c.args.position.now.place c.value_number-j.ensures.index breaks.seats
+    fits_put c.args.self.now c.put_value.new.values c.put_value.ensures.len c.value_number-j.ensures.index c.break_over.ensures.2
 
 pub returns : goal.returns
 unfolding IsPosition pages_of marks_at pends_at value_at
 returns c =
     let self = c.args.self.now in
-    let position = c.args.position.now in
     let e = c.break_over.ensures in
     record {
       written = (
         Broken e.0,
         e.1,
         record {
-          marks = marks_broken self c.break_over.new.self position.place c.value_number-j.result e.0 c.value_number-j.ensures.index e.2;
-          pends = λ q a _. pends_broken self c.break_over.new.self position.place c.value_number-j.result e.0 c.value_number-j.ensures.index e.2 q a;
+          marks = marks_broken self c.value_number-j.ensures.index e.2;
+          pends = λ q a _. pends_broken self c.value_number-j.ensures.index e.2 q a;
           dropped = λ q is. absurd (false≢true (sym is));
         },
       );
-      put = record {
-        values =
-            at_place (bases self.pages) (vec_len self.values) (numbered_in self) 0 c.args.value (value_in self.values.items)
-            (value_in c.put_value.new.values.items) c.args.position.now.place c.value_number-j.result c.value_number-j.ensures.index c.put_value.ensures.values;
-        pages = refl;
-      };
+      put = record { values = value_put self c.put_value.new.values.items _ _ c.value_number-j.ensures.index c.put_value.ensures.values; pages = refl };
     }

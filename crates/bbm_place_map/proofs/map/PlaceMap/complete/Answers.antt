@@ -2,7 +2,7 @@ use Rattle.bbm_place_map.proofs.Common.{◌≡◌, false, refl, bases, index_of,
 use Rattle.bbm_place_map.proofs.Common.{Completes, loses_table}
 use Rattle.std.proofs.lemmas.Bool.{eqb-false}
 use Rattle.bbm_place_map.proofs.Clearing.{fits_seated}
-use Rattle.bbm_place_map.proofs.Completed.{lost_place}
+use Rattle.bbm_place_map.proofs.Restless.{lost_place}
 use Rattle.bbm_place_map.proofs.Completing.{completes_none}
 use Rattle.bbm_place_map.proofs.Made.{barrier}
 use Rattle.bbm_place_map.proofs.Reaching.{at_each}
@@ -17,17 +17,14 @@ pub returns-clause-completed : goal.returns-clause-completed
 unfolding marks_at pends_at
 returns-clause-completed c = λ a.
     let by = barrier c.args.issuer c.args.dsb c.args.n Complete in
-    let self = c.args.self.now in
-    (at_each (Completes by) None (entry_at self.broken) (entry_at c.visit.new.self) (completes_none by) c.visit.ensures.each
-    (index_of (bases self.pages) a)).own
+    (at_each (Completes by) None _ _ (completes_none by) c.visit.ensures.each (index_of (bases c.args.self.now.pages) a)).own
 
 pub returns-clause-others : goal.returns-clause-others
 unfolding marks_at pends_at
 returns-clause-others c = λ q a b cover p other.
     let by = barrier c.args.issuer c.args.dsb c.args.n Complete in
-    let self = c.args.self.now in
-    (at_each (Completes by) None (entry_at self.broken) (entry_at c.visit.new.self) (completes_none by) c.visit.ensures.each
-    (index_of (bases self.pages) a)).others q (eqb-false q c.args.issuer other) b cover p
+    (at_each (Completes by) None _ _ (completes_none by) c.visit.ensures.each (index_of (bases c.args.self.now.pages) a)).others q
+    (eqb-false q c.args.issuer other) b cover p
 
 pub returns-clause-lost : goal.returns-clause-lost
 unfolding marks_at
@@ -36,5 +33,4 @@ returns-clause-lost c = λ is. let w = c.visit.ensures.lost is in lost_place c.a
 pub returns-clause-kept : goal.returns-clause-kept
 unfolding marks_at
 returns-clause-kept c = λ is a.
-    at_each (λ o p. loses_table (marks_of o) (marks_of p) ≡ false) None (entry_at c.args.self.now.broken) (entry_at c.visit.new.self) refl
-    (c.visit.ensures.kept is) (index_of (bases c.args.self.now.pages) a)
+    at_each (λ o p. loses_table (marks_of o) (marks_of p) ≡ false) None _ _ refl (c.visit.ensures.kept is) (index_of (bases c.args.self.now.pages) a)

@@ -1,7 +1,6 @@
-use Rattle.bbm_place_map.proofs.Common.{arith}
-use Rattle.bbm_place_map.proofs.Bases.{base_number}
-use Rattle.bbm_place_map.proofs.Common.{◌≡◌, ℕ, ◌<◌, ◌+◌, List, refl, ap, sym, subst, ◌∙◌}
-use Rattle.bbm_place_map.proofs.Common.{false≢true, bases, value_in, at_index, marks_of, entry_at, None}
+use Rattle.bbm_place_map.proofs.Common.{◌≡◌, ℕ, ◌<◌, ◌+◌, List, refl, ap, sym, subst, ◌∙◌, false≢true, bases, value_in}
+use Rattle.bbm_place_map.proofs.Common.{at_index, marks_of, entry_at, None}
+use Rattle.bbm_place_map.proofs.Bases.{base_first}
 use Rattle.bbm_place_map.proofs.Blank.{free_marks, marks_free, values_zero, zero_values}
 use Rattle.bbm_place_map.proofs.Places.{index_none}
 use Rattle.bbm_place_map.specs.Map.{marks_at, value_at}
@@ -33,9 +32,7 @@ returns-else-not-is_zero-clause-blank c =
     )
 
 pub is_free-requires : goal.is_free-requires
-is_free-requires c =
-    let n = base_number c.args.self.now.pages c.args.page c.in-Some.base (sym c.base.ensures.base ∙ c.in-Some.is) in
-    omega (arith, n.2)
+is_free-requires c = base_first c.args.self.now.pages c.args.page c.in-Some.base (sym c.base.ensures.base ∙ c.in-Some.is)
 
 pub returns-in-None-clause-blank : goal.returns-in-None-clause-blank
 unfolding marks_at value_at

@@ -32,4 +32,4 @@ unfolding marks_at pends_at restless_in restless_place
 returns-clause-noted c =
     let by = issuing c.args.issuer c.args.reach c.args.broadcast in
     let covers = c.args.covers.now in
-    noted_by_number c.args.self.now c.note.new.broken covers by (at_after_room covers by c.make_room.ensures.each c.note.ensures) c.requires
+    noted_by_number c.args.self.now c.law_once.ensures c.note.new.broken covers by (at_after_room covers by c.make_room.ensures.each c.note.ensures) c.requires

@@ -34,10 +34,10 @@ returns-in_err-make_room_found-clause-kept c =
     on_err c.from_residual.result (room_same c.args.self.now _ refl refl c.make_room_found.ensures.each)
 
 pub make_room_found-requires : goal.make_room_found-requires
-make_room_found-requires c = is_kept c.args.self.now
+make_room_found-requires c = is_kept c.args.self.now c.law_once.ensures
 
 pub note_found-requires-clause-sound : goal.note_found-requires-clause-sound
-note_found-requires-clause-sound c = kept_moved (is_kept c.args.self.now) c.make_room_found.ensures.each
+note_found-requires-clause-sound c = kept_moved (is_kept c.args.self.now c.law_once.ensures) c.make_room_found.ensures.each
 
 pub returns-clause-noted : goal.returns-clause-noted
 unfolding marks_at pends_at

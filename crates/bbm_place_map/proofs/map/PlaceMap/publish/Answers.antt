@@ -1,8 +1,8 @@
 use Rattle.bbm_place_map.proofs.Common.{arith, nil_from_length, subst, Published, state_from, Entry, Complete, marks_of}
-use Rattle.bbm_place_map.proofs.Completed.{empty_place}
 use Rattle.bbm_place_map.proofs.Common.{ℕ, ◌∙◌, refl, ap, sym, bases, index_of, unwrap_or, option_map, None}
-use Rattle.bbm_place_map.proofs.Common.{place_entry, at_index, entry_at, entries_in}
-use Rattle.bbm_place_map.proofs.Common.{slice_get, Option, Publish, Advances, Publishes}
+use Rattle.bbm_place_map.proofs.Common.{slice_get, Option, Publish, Advances}
+use Rattle.bbm_place_map.proofs.Common.{Publishes}
+use Rattle.bbm_place_map.proofs.Seated.{empty_place}
 use Rattle.bbm_place_map.proofs.Clearing.{fits_seated}
 use Rattle.bbm_place_map.proofs.Made.{barrier}
 use Rattle.bbm_place_map.proofs.Positions.{position_place}
@@ -19,25 +19,19 @@ pub returns-clause-published : goal.returns-clause-published
 unfolding marks_at
 returns-clause-published c = λ live a.
     let by = barrier c.args.issuer c.args.dsb c.args.n (Publish c.publishes_to.result) in
-    let self = c.args.self.now in
-    let o = index_of (bases self.pages) a in
-    published_at by live (place_entry self a) (at_index None (entry_at c.visit.new.self) o)
-    (at_each (Advances (Publishes by)) None (entry_at self.broken) (entry_at c.visit.new.self) tt c.visit.ensures.each o)
+    published_at by live _ _ (at_each (Advances (Publishes by)) None _ _ tt c.visit.ensures.each (index_of (bases c.args.self.now.pages) a))
 
 pub returns-clause-pends : goal.returns-clause-pends
 unfolding pends_at
 returns-clause-pends c = λ q a.
     let by = barrier c.args.issuer c.args.dsb c.args.n (Publish c.publishes_to.result) in
-    let self = c.args.self.now in
-    let o = index_of (bases self.pages) a in
-    pends_at_same by q (place_entry self a) (at_index None (entry_at c.visit.new.self) o)
-    (at_each (Advances (Publishes by)) None (entry_at self.broken) (entry_at c.visit.new.self) tt c.visit.ensures.each o)
+    pends_at_same by q _ _ (at_each (Advances (Publishes by)) None _ _ tt c.visit.ensures.each (index_of (bases c.args.self.now.pages) a))
 
 pub returns-clause-same : goal.returns-clause-same
 unfolding pages_of restless_in restless_place value_at
 returns-clause-same c =
-    let old = (entries_in c.args.self.now.broken) in
-    let new = (entries_in c.visit.new.self) in
+    let old = c.args.self.now.broken.entries in
+    let new = c.visit.new.self.entries in
     let seats = c.visit.ensures.order in
     record {
       values = λ a. refl;
@@ -54,7 +48,7 @@ unfolding marks_at
 returns-then-len-eq0-clause-published c = λ live a.
     let by = barrier c.args.issuer c.args.dsb c.args.n Complete in
     let broken = c.args.self.now.broken in
-    let none = nil_from_length (entries_in broken) (omega (arith, c.len.ensures, c.if-len-eq0.true)) in
+    let none = nil_from_length broken.entries (omega (arith, c.len.ensures, c.if-len-eq0.true)) in
     let P : Option Entry → Type 0 = λ o. Published (state_from live (marks_of o)) by.issuer by.dsb by.n (state_from live (marks_of o)) in
     subst P (sym (empty_place broken none (index_of (bases c.args.self.now.pages) a)))
     (whole by live)

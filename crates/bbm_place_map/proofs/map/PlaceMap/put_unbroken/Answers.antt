@@ -1,7 +1,5 @@
-use Rattle.bbm_place_map.proofs.Bases.{numbered_in}
-use Rattle.bbm_place_map.proofs.Common.{refl, nat_eq, vec_len, eq-eqb, false, bases, value_in, arith}
-use Rattle.bbm_place_map.proofs.Clearing.{fits_seated, place_cleared}
-use Rattle.bbm_place_map.proofs.Places.{at_place}
+use Rattle.bbm_place_map.proofs.Common.{refl, nat_eq, eq-eqb, false, arith}
+use Rattle.bbm_place_map.proofs.Clearing.{fits_seated, place_cleared, value_put}
 use Rattle.bbm_lemmas.proofs.Bools.{none_unless}
 use Rattle.bbm_place_map.specs.Map.{pages_of, marks_at, pends_at, value_at, IsPosition}
 use Rattle.bbm_place_map.proofs.map.PlaceMap.put_unbroken.Goals as goal
@@ -19,19 +17,13 @@ invariant_of-self c =
 pub returns-clause-put : goal.returns-clause-put
 unfolding IsPosition pages_of value_at
 returns-clause-put c =
-    let self = c.args.self.now in
-    record {
-      values =
-          at_place (bases self.pages) (vec_len self.values) (numbered_in self) 0 c.args.value (value_in self.values.items)
-          (value_in c.put_value.new.values.items) c.args.position.now.place c.value_number-j.result c.value_number-j.ensures.index c.put_value.ensures.values;
-      pages = refl;
-    }
+    record { values = value_put c.args.self.now c.put_value.new.values.items _ _ c.value_number-j.ensures.index c.put_value.ensures.values; pages = refl }
 
 pub returns-clause-left : goal.returns-clause-left
 unfolding IsPosition marks_at pends_at
 returns-clause-left c =
     let place = c.args.position.now.place in
-    let all = place_cleared c.args.self.now c.clear.new.self place c.value_number-j.result c.value_number-j.ensures.index c.clear.ensures in
+    let all = place_cleared c.args.self.now place c.value_number-j.ensures.index c.clear.ensures in
     record {
       marks = all.marks;
       pends = λ q a off. all.pends q a (none_unless (nat_eq a place) false refl off);

@@ -1,14 +1,11 @@
-use Rattle.bbm_place_map.proofs.Bases.{base_number}
-use Rattle.bbm_place_map.proofs.Common.{arith}
+use Rattle.bbm_place_map.proofs.Bases.{base_first}
 use Rattle.bbm_place_map.proofs.Common.{refl, sym, ◌∙◌}
 use Rattle.bbm_place_map.proofs.Clearing.{fits_seated, frees_untracked, page_cleared}
 use Rattle.bbm_place_map.specs.Map.{marks_at, pends_at}
 use Rattle.bbm_place_map.proofs.map.PlaceMap.release.Goals as goal
 
 pub clear_page-requires : goal.clear_page-requires
-clear_page-requires c =
-    let n = base_number c.args.self.now.pages c.args.page c.in-Some.base (sym c.base.ensures.base ∙ c.in-Some.is) in
-    omega (arith, n.2)
+clear_page-requires c = base_first c.args.self.now.pages c.args.page c.in-Some.base (sym c.base.ensures.base ∙ c.in-Some.is)
 
 pub invariant_of-self : goal.invariant_of-self
 invariant_of-self c =
@@ -17,7 +14,7 @@ invariant_of-self c =
 pub returns-in-Some-clause-freed : goal.returns-in-Some-clause-freed
 unfolding marks_at pends_at
 returns-in-Some-clause-freed c =
-    let all = page_cleared c.args.self.now c.clear_page.new.self c.args.page c.in-Some.base (sym c.base.ensures.base ∙ c.in-Some.is) c.clear_page.ensures in
+    let all = page_cleared c.args.self.now c.args.page (sym c.base.ensures.base ∙ c.in-Some.is) c.clear_page.ensures in
     record { marks = all.marks; pends = all.pends; dropped = all.dropped }
 
 pub returns-in-None-clause-freed : goal.returns-in-None-clause-freed

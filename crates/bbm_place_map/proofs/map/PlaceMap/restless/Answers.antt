@@ -6,7 +6,7 @@ use Rattle.bbm_place_map.proofs.map.PlaceMap.restless.Goals as goal
 
 pub returns-clause-broken : goal.returns-clause-broken
 unfolding marks_at restless_in restless_place
-returns-clause-broken c = place_broken c.args.self.now
+returns-clause-broken c = place_broken c.args.self.now c.law_once.ensures
 
 pub returns-clause-each : goal.returns-clause-each
 unfolding marks_at restless_in restless_place
@@ -14,7 +14,7 @@ returns-clause-each c = place_each c.args.self.now
 
 pub returns-clause-once : goal.returns-clause-once
 unfolding marks_at restless_in restless_place
-returns-clause-once c = place_once c.args.self.now
+returns-clause-once c = place_once c.args.self.now c.law_once.ensures
 
 pub returns-clause-idle : goal.returns-clause-idle
 unfolding marks_at pends_at

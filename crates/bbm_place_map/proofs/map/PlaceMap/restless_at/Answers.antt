@@ -10,4 +10,4 @@ returns-clause-place c = sym (place_is c.args.self.now c.args.i c.item.result.no
 pub returns-clause-broken : goal.returns-clause-broken
 unfolding marks_at restless_in
 returns-clause-broken c =
-    ap (λ (o : Option Entry). is_some (marks_of o)) (entry_here c.args.self.now c.args.i c.item.result.now c.item.ensures)
+    ap (λ (o : Option Entry). is_some (marks_of o)) (entry_here c.args.self.now c.law_once.ensures c.args.i c.item.result.now c.item.ensures)
