@@ -14,6 +14,7 @@ mod writing;
 
 ghost use Rattle.std.specs.Prelude.{◌≡◌, ◌≤◌, ◌<◌, ◌*◌, length, vec_len};
 ghost use Rattle.std.proofs.Props.{props};
+ghost use Rattle.bbm_regimes.specs.declared.address.TheConstants.{PLACES};
 ghost use Rattle.bbm_place_map.specs.Sound.{Placed, bases};
 
 use crate::broken::BrokenPlaces;
@@ -32,7 +33,7 @@ pub struct PlaceMap {
     pages: PageNumbers,
     values: Vec<u64>,
     broken: BrokenPlaces,
-    ghost counted: { 512 * length pages ≡ vec_len values },
+    ghost counted: { PLACES * length pages ≡ vec_len values },
     ghost paged: { broken.pages ≡ length pages },
     ghost placed: { Placed (bases pages) broken.entries },
 }
