@@ -1,6 +1,7 @@
 //! Roots of stage 2 tables.
 
 ghost use Rattle.std.specs.Prelude.{◌≡◌, ◌*◌, ◌%◌, ◌≤◌, IsTrue};
+ghost use Rattle.bbm_regimes.specs.declared.address.TheConstants.{PAGE_BYTES};
 ghost use Rattle.bbm_walk_s2.specs.Joined.{can_join};
 
 use bbm_regimes::{Level, Page};
@@ -18,5 +19,5 @@ pub struct S2Root {
 
     ghost starts: { start ≤ 2 },
     ghost joined: { IsTrue (can_join start pages) },
-    ghost aligned: { page % (4096 * pages) ≡ 0 },
+    ghost aligned: { page % (PAGE_BYTES * pages) ≡ 0 },
 }
