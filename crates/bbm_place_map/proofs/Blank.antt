@@ -1,8 +1,8 @@
 -- Pages no place of which has a value or is broken.
 use Rattle.bbm_place_map.proofs.Common.{◌≡◌, ℕ, ◌+◌, ◌*◌, ◌/◌, ◌%◌, ◌<◌, Option, Some, None, refl, ap, sym, ◌∙◌}
 use Rattle.bbm_place_map.proofs.Common.{none-some, bases, value_in, marks_of, entry_at, place_entry, at_index, index_of}
-use Rattle.bbm_place_map.proofs.Common.{Entry, PlaceMap}
-use Rattle.bbm_place_map.proofs.Places.{cell_of, eighth_at, index_from, number_at, number_below, page_at}
+use Rattle.bbm_place_map.proofs.Common.{Entry, PlaceMap, arith}
+use Rattle.bbm_place_map.proofs.Places.{cell_of, eighth_at, index_from, number_at, page_at}
 use Rattle.bbm_place_map.specs.Map.{marks_at, value_at}
 
 pub no_entry : (o : Option Entry) → marks_of o ≡ None → o ≡ None
@@ -14,7 +14,7 @@ module _ {X : Type 0} (d : X) (f : ℕ → X) (base : ℕ → Option ℕ) (page 
   at_cell : ((i : ℕ) → i < 512 → f (b + i) ≡ d) → (a : ℕ) → a / 4096 * 4096 ≡ page → (o : Option ℕ) → index_of base a ≡ o
       → at_index d f o ≡ d
   at_cell all a same None h = refl
-  at_cell all a same (Some j) h = ap f (sym (cell_of base page b a j is same h)) ∙ all (a % 4096 / 8) (number_below a)
+  at_cell all a same (Some j) h = ap f (sym (cell_of base page b a j is same h)) ∙ all (a % 4096 / 8) (omega arith)
 
   pub at_places : ((i : ℕ) → i < 512 → f (b + i) ≡ d) → (a : ℕ) → a / 4096 * 4096 ≡ page → at_index d f (index_of base a) ≡ d
   at_places all a same = at_cell all a same (index_of base a) refl

@@ -44,9 +44,6 @@ cell_of base page b a j is same h =
     let sum : w.start + a % 4096 / 8 ≡ j = w.sum in
     omega arith
 
-pub number_below : (a : ℕ) → a % 4096 / 8 < 512
-number_below a = omega arith
-
 same_address : (a a' : ℕ) → a / 4096 * 4096 ≡ a' / 4096 * 4096 → a % 8 ≡ 0 → a' % 8 ≡ 0 → a % 4096 / 8 ≡ a' % 4096 / 8 → a ≡ a'
 same_address a a' page aligned aligned' same = omega arith
 
@@ -101,7 +98,7 @@ module _ (base : ℕ → Option ℕ) (count : ℕ) (numbered : Numbered base cou
       let g = found base a' j h' in
       let page : a / 4096 * 4096 ≡ a' / 4096 * 4096
       = one_page (a / 4096 * 4096) (a' / 4096 * 4096) f.start g.start (a % 4096 / 8) (a' % 4096 / 8) f.is g.is
-      (number_below a) (number_below a') (f.sum ∙ sym g.sum) in
+      (omega arith) (omega arith) (f.sum ∙ sym g.sum) in
       let start : f.start ≡ g.start = same_Some f.start g.start (sym f.is ∙ ap base page ∙ g.is) in
       same_address a a' page f.aligned g.aligned (let sum : f.start + a % 4096 / 8 ≡ j = f.sum in let sum' : g.start + a' % 4096 / 8 ≡ j = g.sum in omega arith)
 
@@ -126,14 +123,14 @@ module _ (base : ℕ → Option ℕ) (count : ℕ) (numbered : Numbered base cou
   within_page d f g page b is new a same None h = refl
   within_page d f g page b is new a same (Some i) h =
       let sum : b + a % 4096 / 8 ≡ i = cell_of base page b a i is same h in
-      let below : a % 4096 / 8 < 512 = number_below a in
+      let below : a % 4096 / 8 < 512 = omega arith in
       new i ∙ cond-true (in_page b 512 i) d (f i) (inside b 512 i (omega arith) (omega arith))
 
   not_in_page : (page b a i : ℕ) → base page ≡ Some b → a / 4096 * 4096 ≢ page → index_of base a ≡ Some i → in_page b 512 i ≡ false
   not_in_page page b a i is other h =
       let w = found base a i h in
       let sum : w.start + a % 4096 / 8 ≡ i = w.sum in
-      let below : a % 4096 / 8 < 512 = number_below a in
+      let below : a % 4096 / 8 < 512 = omega arith in
       elim (cases_lt i b) [
         | inl low ↦ before b 512 i low
         | inr at ↦
