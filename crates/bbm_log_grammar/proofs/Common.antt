@@ -24,7 +24,7 @@ pub use Rattle.bbm_events.specs.Heading.{Heading, heading_ok}
 pub use Rattle.bbm_events.specs.Label.{is_label, is_label_byte}
 pub use Rattle.bbm_events.specs.Lines.{Fields, event_fields, found, next_field}
 pub use Rattle.bbm_events.specs.Spelling.{fields, joined}
-pub use Rattle.bbm_events.specs.Words.{dsb_word, op_word, ops, reg_word, with_word}
+pub use Rattle.bbm_events.specs.Words.{dsb_word, op_word, reg_word}
 pub use Rattle.bbm_events.specs.declared.event.Event.{Event}
 pub use Rattle.bbm_events.specs.declared.malformed.Malformed.{Malformed}
 pub use Rattle.bbm_lemmas.proofs.Tautologies.{proved}

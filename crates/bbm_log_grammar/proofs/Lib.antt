@@ -4,7 +4,6 @@ pub mod Marks
 pub mod Numerals
 pub mod Splitting
 pub mod Passing
-pub mod Named
 pub mod Parts
 pub mod Short
 pub mod Spelled

@@ -9,7 +9,7 @@ ghost use Rattle.bbm_log_grammar.specs.InLine.{item_in, read_in};
 use crate::fields::{Fields, found};
 use crate::line::LineItem;
 use crate::values::{count_of, is_marked, label_of, lock_of, pe_of, root_lock_of, root_page_of};
-use crate::words::{DSBS, KINDS, REGS, op_of};
+use crate::words::{DSBS, KINDS, OPS, REGS, named};
 use bbm_barriers::Dsb;
 use bbm_events::{Event, Header, Malformed, has_op};
 use bbm_regimes::{Kind, Page, Pe, Place, Reg};
@@ -129,7 +129,7 @@ pub(crate) fn dsb_field<'a>(fields: Fields<'a>) -> Result<(Dsb, Fields<'a>), Mal
 fn op_in(header: &Header, text: &[u8]) -> Option<TlbiOp>
     ensures { result ≡ lines.passing (has_op header.now.version) (with_word op_word ops text.now) }
 {
-    let op = op_of(text)?;
+    let op = named(&OPS, text)?;
     if has_op(header, op) { Some(op) } else { None }
 }
 

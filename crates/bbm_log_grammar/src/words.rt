@@ -379,22 +379,3 @@ impl Worded for TlbiOp {
         }
     }
 }
-
-/// The operations without an operand that kernels and hypervisors mostly issue, and that of an ASID.
-const COMMON_OPS: [TlbiOp; 5] = [
-    TlbiOp::Alle2is,
-    TlbiOp::Vmalle1is,
-    TlbiOp::Vmalls12e1is,
-    TlbiOp::Alle1is,
-    TlbiOp::Aside1is,
-];
-
-/// The operation that the field is; common ones are sought first.
-pub(crate) fn op_of(field: &[u8]) -> Option<TlbiOp>
-    ensures { result ≡ words.with_word words.op_word words.ops field.now }
-{
-    match named(&COMMON_OPS, field) {
-        Some(op) => Some(op),
-        None => named(&OPS, field),
-    }
-}
