@@ -2,7 +2,7 @@
 use Rattle.bbm_roots.proofs.Common.{pe_finds, pe_none, tag_equal, tag_self, ◌≡◌, ℕ, ◌<◌, Bool, true, false, ◌&&◌, not}
 use Rattle.bbm_roots.proofs.Common.{any_found, any_finds, eqb-true, subst, arith, nat_lt, nat_eq, refl, sym, ◌∙◌, ap}
 use Rattle.bbm_roots.proofs.Common.{true_from_ne_false, false≢true, lt-ltb, ltb-true, proved, If, Is, Tag}
-use Rattle.bbm_roots.proofs.Common.{some_pe, same_flag, same_tag, first_true, zero, suc, ◌+◌, ◌||◌, List}
+use Rattle.bbm_roots.proofs.Common.{some_pe, same_tag, first_true, zero, suc, ◌+◌, ◌||◌, List}
 use Rattle.bbm_roots.proofs.Common.{[], ◌∷◌, length, take, get_or, list_any, Option, Some, None, TagSet, Many, HasTags}
 use Rattle.bbm_roots.proofs.Common.{IsLeast, flat_map, list_all}
 use Rattle.std.proofs.Common.{IsTrue}
@@ -26,9 +26,6 @@ some_pe-empty n test both false same none all =
 
 pub and_right : (a b : Bool) → (a && b) ≡ true → b ≡ true
 and_right = proved 2 (λ a b. If (Is (a && b) true) (Is b true)) refl
-
-pub same_flag-true : (a b : Bool) → same_flag a b ≡ true → a ≡ b
-same_flag-true = proved 2 (λ a b. If (Is (same_flag a b) true) (Is a b)) refl
 
 -- what is so of a tag and a root is so of those that a test tells to be the same
 pub as-same : (P : Tag → ℕ → Type 0) (tag g : Tag) (root r : ℕ) → (same_tag tag g && nat_eq root r) ≡ true → P tag root → P g r

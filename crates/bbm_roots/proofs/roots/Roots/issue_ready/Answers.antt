@@ -1,6 +1,6 @@
 use Rattle.bbm_roots.proofs.Common.{◌≡◌, ◌<◌, ◌∙◌, ap, sym, refl, Bool, ◌&&◌, ◌||◌, nat_eq, nat_lt, true, false, ℕ}
 use Rattle.bbm_roots.proofs.Common.{TlbiOp, Scope, Tlbi, Patterns, Stands, holder_at, not, loads_after}
-use Rattle.bbm_roots.proofs.Common.{Option}
+use Rattle.bbm_roots.proofs.Common.{Option, proved, If, Is}
 use Rattle.bbm_roots.proofs.Common.{Heading, Event, List, ◌∷◌, None, Some}
 use Rattle.bbm_roots.proofs.Common.{lt-ltb, first_true, Tag, takes_whole_tag, loads_in, pending_in}
 use Rattle.bbm_roots.proofs.Common.{has_pending, same_flag, unread_at, has_tag, reads_tag, second_reg}
@@ -18,7 +18,7 @@ use Rattle.bbm_roots.proofs.Others.{others}
 use Rattle.bbm_roots.proofs.Common.{firsts_after, firsts_of, reading_world, standings_of}
 use Rattle.bbm_roots.proofs.Readable.{firsts-are, reads-stay, readings-same}
 use Rattle.bbm_roots.proofs.Steps.{holds-stay, left-stay, noted}
-use Rattle.bbm_roots.proofs.Tests.{and_right, same_flag-true}
+use Rattle.bbm_roots.proofs.Tests.{and_right}
 use Rattle.bbm_roots.proofs.roots.Roots.issue_ready.Goals as goal
 
 -- the entry of an issuer, which is this one
@@ -27,7 +27,8 @@ entry-there : (q issuer : ℕ) (flag b takes : Bool) (g : Tag) (ps : Pendings) �
     has_pending ps q b g ≡ true
 entry-there q issuer flag b takes g ps key there =
     let front : (nat_eq q issuer && same_flag flag b) ≡ true = first_true _ takes key in
-    let flags = same_flag-true flag b (and_right (nat_eq q issuer) _ front) in
+    let flags : flag ≡ b =
+    proved 2 (λ x y. If (Is (same_flag x y) true) (Is x y)) refl flag b (and_right (nat_eq q issuer) _ front) in
     rw (eqb-true q issuer (first_true _ (same_flag flag b) front), ← flags)
     (there (and_right (nat_eq q issuer && same_flag flag b) takes key))
 
