@@ -8,7 +8,7 @@ use Rattle.bbm_rules.specs.declared.phase.Phase.TheVariants.{Live}
 use Rattle.bbm_rules.specs.Phases.{phase_of, restless_of}
 use Rattle.bbm_alike.specs.Alike.{Alike, SamePatterns}
 use Rattle.bbm_alike.specs.KnownOfHistories.{Known}
-use Rattle.bbm_alike.proofs.CoverAlike.{held_alike, node_alike, values_alike}
+use Rattle.bbm_alike.proofs.NotesAlike.{NotesAlike, notes_alike}
 use Rattle.bbm_alike.proofs.HeldStep.{last_of}
 
 module _ (heading : Heading) (k : Known heading) (one other : Trust) (h h' : List Event)
@@ -18,6 +18,9 @@ module _ (heading : Heading) (k : Known heading) (one other : Trust) (h h' : Lis
 
   abbrev marks' : List Noted
   marks' = noted heading other h'
+
+  abbrev notes : NotesAlike heading one other marks marks'
+  notes = notes_alike heading k one other h h' a
 
   same_broken_phase : (place p : ℕ) (since since' : List Noted) → p < heading.pes
       → SamePatterns heading place one other since since'
@@ -49,18 +52,18 @@ module _ (heading : Heading) (k : Known heading) (one other : Trust) (h h' : Lis
         (k.phase_parts one).outside h place p found ∙ sym ((k.phase_parts other).outside h' place p found')
     by_node (Some n) found found' =
         by_held n (held_at heading one marks n place) found found' refl
-        (sym (held_alike heading k one other h h' a n place found))
+        (sym (notes.held n place found))
 
     pub same_phase : phase_of heading one h place p ≡ phase_of heading other h' place p
     same_phase =
         by_node (node_of heading one marks (page_of place)) refl
-        (sym (node_alike heading k one other h h' a (page_of place)))
+        (sym (notes.nodes (page_of place)))
 
   same_restless : (place : ℕ) → is_restless heading one marks place ≡ is_restless heading other marks' place
   same_restless place =
       by (node_of heading one marks (page_of place)) refl
       ∙ ap (λ (o : Option Node). option_map_or (at_node heading other marks') o false)
-      (node_alike heading k one other h h' a (page_of place))
+      (notes.nodes (page_of place))
     where
       at_node : Heading → Trust → List Noted → Node → Bool
       at_node heading trust h n =
@@ -71,9 +74,9 @@ module _ (heading : Heading) (k : Known heading) (one other : Trust) (h h' : Lis
       by None found = refl
       by (Some n) found =
           ap (λ (o : Option ℕ). is_some o && not (is_valid n.kind n.level (value_of (events_of marks) place)))
-          (held_alike heading k one other h h' a n place found)
+          (notes.held n place found)
           ∙ ap (λ (v : ℕ). is_some (held_at heading other marks' n place) && not (is_valid n.kind n.level v))
-          (values_alike heading k one other h h' a place)
+          (notes.values place)
 
   pub same_count : restless_of heading one h ≡ restless_of heading other h'
   unfolding restless_of

@@ -2,6 +2,7 @@ pub mod ListsAlike
 pub mod MappedAlike
 pub mod TreesAlike
 pub mod ReadingsAlike
+pub mod NotesAlike
 pub mod CoverAlike
 pub mod Quiet
 pub mod PatternsStep

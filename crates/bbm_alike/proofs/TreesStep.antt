@@ -10,7 +10,7 @@ use Rattle.bbm_histories.specs.TreeChanges.{Attaches, Through}
 use Rattle.bbm_histories.specs.ValueChanges.{HoldsPresent}
 use Rattle.bbm_alike.specs.Alike.{Alike, SamePatterns, TakesAlike}
 use Rattle.bbm_alike.specs.KnownOfHistories.{Known}
-use Rattle.bbm_alike.proofs.CoverAlike.{held_alike, node_alike, values_alike}
+use Rattle.bbm_alike.proofs.NotesAlike.{NotesAlike, notes_alike}
 use Rattle.bbm_alike.proofs.HeldStep.{held_old, patterns_old}
 use Rattle.bbm_alike.proofs.MappedAlike.{same_mapped}
 use Rattle.bbm_alike.proofs.Quiet.{quiet_alike, unwritten}
@@ -23,6 +23,9 @@ module _ (heading : Heading) (k : Known heading) (one other : Trust) (h h' : Lis
   abbrev marks' : List Noted
   marks' = noted heading other h'
 
+  abbrev notes : NotesAlike heading one other marks marks'
+  notes = notes_alike heading k one other h h' a
+
   -- ---- an event attaches the same nodes in both
 
   through_alike : (places : List ℕ) (n m : Node) → Through heading one marks n places m → Through heading other marks' n places m
@@ -31,15 +34,15 @@ module _ (heading : Heading) (k : Known heading) (one other : Trust) (h h' : Lis
     sym (a.fresh n.page) ∙ t.0,
     t.1,
     t.2,
-    ap (λ (v : ℕ). next_of n.kind n.level v) (sym (values_alike heading k one other h h' a place)) ∙ t.3,
+    ap (λ (v : ℕ). next_of n.kind n.level v) (sym (notes.values place)) ∙ t.3,
     through_alike places (node_below n place t.2) m t.4,
   )
 
   attaches_alike : (e : Event) (m : Node) → Attaches heading one marks e m → Attaches heading other marks' e m
   attaches_alike (Write pe place value) m l = record {
     parent = l.parent;
-    is_parent = sym (node_alike heading k one other h h' a (page_of place)) ∙ l.is_parent;
-    empty = sym (held_alike heading k one other h h' a l.parent place l.is_parent) ∙ l.empty;
+    is_parent = sym (notes.nodes (page_of place)) ∙ l.is_parent;
+    empty = sym (notes.held l.parent place l.is_parent) ∙ l.empty;
     next = l.next;
     table = l.table;
     places = l.places;
