@@ -5,7 +5,7 @@ use Rattle.bbm_log_grammar.proofs.Common.{take_rest, digit_value, list_all, Inne
 use Rattle.bbm_log_grammar.proofs.Common.{Heading, is_label, is_label_byte, event_fields, joined, dsb_word, op_word}
 use Rattle.bbm_log_grammar.proofs.Common.{reg_word, Reg, TlbiOp, Vae2is, Vale2is, Vae1is, Vale1is, Ipas2e1is, Vmalle1is}
 use Rattle.bbm_log_grammar.proofs.Common.{Alle2is, is_lower_digit}
-use Rattle.std.proofs.Common.{Fits, w8, append_assoc, append-nil, length-append}
+use Rattle.std.proofs.Common.{Fits, w8, append_assoc, length-append}
 use Rattle.std.proofs.Common.{
   ◌∷◌,
   ◌++◌,
@@ -14,8 +14,6 @@ use Rattle.std.proofs.Common.{
   drop,
   get_or,
   Option,
-  Some,
-  None,
   Ok,
   codes,
   decimal,
@@ -35,7 +33,7 @@ use Rattle.bbm_events.specs.Spelling.{hex, is_plain}
 use Rattle.bbm_tlbi_scope.specs.Operations.{has_operand}
 use Rattle.bbm_log_grammar.specs.Ahead.{StandsFirst, label_part, four_bytes}
 use Rattle.bbm_log_grammar.proofs.Numerals.{is_base_10, text_value, lower_below}
-use Rattle.bbm_log_grammar.proofs.Parts.{one_label}
+use Rattle.bbm_log_grammar.proofs.Parts.{labelled}
 
 -- these codes stand in the text, from the position on
 abbrev Has : List ℕ → ℕ → List ℕ → Type 0
@@ -125,11 +123,7 @@ three_fields one two three s a b c e f g =
 line_is : (e : Event) (label : Option (List ℕ)) (rest : List ℕ)
     → joined (event_fields e) ++ (label_part label ++ rest) ≡ item_line (item.Event e label) ++ rest
 unfolding item_line
-line_is e None rest = ap (λ fs. joined fs ++ rest) (sym (append-nil (event_fields e)))
-line_is e (Some label) rest =
-    let front = joined (event_fields e) in
-    sym (append_assoc front (32 ∷ 64 ∷ label) rest)
-    ∙ ap (λ l. l ++ rest) (sym (append_assoc front (32 ∷ 64 ∷ []) label) ∙ one_label [] front e label refl)
+line_is e label rest = sym (append_assoc (joined (event_fields e)) (label_part label) rest) ∙ ap (λ l. l ++ rest) (labelled e label)
 
 pub stands_first : (heading : Heading) (e : Event) (label : Option (List ℕ)) (s a b : List ℕ) (count : ℕ)
     → s ≡ joined (event_fields e) ++ a → a ≡ label_part label ++ 10 ∷ b → count ≡ length s - length b - 1

@@ -1,12 +1,12 @@
 -- Fields that follow others of a line: the words of a header, and the label of an event.
-use Rattle.bbm_log_grammar.proofs.Common.{◌≡◌, ℕ, List, [], ◌∷◌, ◌++◌, ap, sym, ◌∙◌, Some, None, append_assoc}
+use Rattle.bbm_log_grammar.proofs.Common.{◌≡◌, ℕ, List, [], ◌∷◌, ◌++◌, ap, sym, ◌∙◌, Option, Some, None, append_assoc}
 use Rattle.bbm_log_grammar.proofs.Common.{append-nil, Event, joined, Fields, event_fields}
 use Rattle.std.specs.Prelude.{codes, decimal}
 use Rattle.bbm_regimes.specs.declared.regime.World.{World}
 use Rattle.bbm_regimes.specs.declared.regime.World.TheVariants.{Hyp, Kernel}
 use Rattle.bbm_events.specs.Lines.{header_fields, label_fields}
+use Rattle.bbm_log_grammar.specs.Ahead.{label_part}
 use Rattle.bbm_log_grammar.specs.Left.{spaced}
-use Rattle.bbm_events.proofs.Labels.{label_length}
 use Rattle.bbm_events.proofs.Written.{event_fields_some}
 
 joined_more : (piece : List ℕ) (pieces more : Fields) → joined (piece ∷ pieces) ++ spaced more ≡ joined ((piece ∷ pieces) ++ more)
@@ -27,19 +27,13 @@ header_more version pes (Kernel world) line after e =
     ap (λ (x : List ℕ). x ++ spaced after) e
     ∙ joined_more (codes "bbmlog") (decimal version ∷ header_fields pes (Kernel world) []) after
 
-pub no_label : (front line : List ℕ) (event : Event) → line ≡ front ++ joined (event_fields event) → line ≡ front ++ joined (event_fields event ++ label_fields None)
-no_label front line event e = e ∙ ap (λ (fs : Fields). front ++ joined fs) (sym (append-nil (event_fields event)))
-
-pub one_label : (front line : List ℕ) (event : Event) (label : List ℕ) → line ≡ front ++ joined (event_fields event) → (line ++ 32 ∷ 64 ∷ []) ++ label ≡ front ++ joined (event_fields event ++ label_fields (Some label))
-one_label front line event label e =
+-- the fields of an event and of its label
+pub labelled : (event : Event) (label : Option (List ℕ))
+    → joined (event_fields event) ++ label_part label ≡ joined (event_fields event ++ label_fields label)
+labelled event None = append-nil (joined (event_fields event)) ∙ ap joined (sym (append-nil (event_fields event)))
+labelled event (Some label) =
     let some = event_fields_some event in
-    append_assoc line (32 ∷ 64 ∷ []) label
-    ∙ ap (λ (x : List ℕ). x ++ 32 ∷ 64 ∷ label) e
-    ∙ append_assoc front (joined (event_fields event)) (32 ∷ 64 ∷ label)
-    ∙ ap (λ (x : List ℕ). front ++ x)
-    (ap (λ (x : List ℕ). x ++ 32 ∷ 64 ∷ label) (ap joined some.2)
+    ap (λ (fs : Fields). joined fs ++ 32 ∷ 64 ∷ label) some.2
     ∙ ap (λ (x : List ℕ). joined (some.0 ∷ some.1) ++ 32 ∷ x) (sym (append-nil (64 ∷ label)))
     ∙ joined_more some.0 some.1 ((64 ∷ label) ∷ [])
-    ∙ ap (λ (fs : Fields). joined (fs ++ ((64 ∷ label) ∷ []))) (sym some.2))
-
-pub ruleset parts = (no_label, one_label, label_length)
+    ∙ ap (λ (fs : Fields). joined (fs ++ ((64 ∷ label) ∷ []))) (sym some.2)

@@ -31,7 +31,7 @@ pub use machine::read_machine;
 pub use machine_writing::write_machine;
 pub use numbers::{read_decimal, read_hex};
 pub use read_ahead::{ByWord, Dsbs, Front, Isbs, Tlbis, Writes, line_ahead};
-pub use spell::{add, add_decimal, add_hex};
+pub use spell::{add, add_decimal, add_hex, add_label};
 pub use turn::{LineFault, Turn};
 pub use values::page_of;
 pub use words::kind_named;

@@ -1,12 +1,14 @@
-//! Words and numbers, appended to a line that has room for them.
+//! Words, numbers and labels, appended to a line that has room for them.
 
 ghost use Rattle.std.specs.Prelude.{◌≡◌, ◌+◌, ◌^◌, ◌≤◌, ◌<◌, false, ◌++◌, length, decimal};
 ghost use Rattle.std.specs.Fmt.{digits, digit_glyph};
 ghost use Rattle.arrayvec.specs.ArrayVec.{array_vec_len};
 ghost use Rattle.bbm_events.specs.Spelling.{hex};
+ghost use Rattle.bbm_log_grammar.specs.Ahead.{label_part};
 ghost use Rattle.bbm_log_grammar.specs.Digits.{two, four};
 
 use arrayvec::ArrayVec;
+use bbm_events::Label;
 use itoa::Buffer;
 
 /// Appends the bytes of the piece, for which there has to be room.
@@ -178,4 +180,17 @@ pub fn add_hex<const N: usize>(out: &mut ArrayVec<u8, N>, n: u64)
 {
     add(out, b"0x");
     add_digits(out, n);
+}
+
+/// Appends a space, the mark `@` and the label, at most 34 bytes, where there is one; nothing where there is none.
+#[tactic(auto, using(bbm_events::proofs::Labels::label_length))]
+pub fn add_label<const N: usize>(out: &mut ArrayVec<u8, N>, label: Option<Label>)
+    requires room { array_vec_len out.old + 34 ≤ N }
+    ensures appended { out.new.items ≡ out.old.items ++ label_part label }
+    ensures longer { array_vec_len out.new ≤ array_vec_len out.old + 34 }
+{
+    if let Some(label) = label {
+        add(out, b" @");
+        add(out, label.bytes());
+    }
 }

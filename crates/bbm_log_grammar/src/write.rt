@@ -1,23 +1,22 @@
 //! The one line of a header, and of an item.
 //! Source: project's own choice, where no other is named.
 
-ghost use Rattle.std.specs.Prelude.{◌≡◌, ◌+◌, ◌≤◌, ℕ, List, true, Ok, ◌++◌, ◌∷◌, [], length, codes, decimal, IfSome};
+ghost use Rattle.std.specs.Prelude.{◌≡◌, ◌+◌, ◌≤◌, true, Ok, ◌++◌, ◌∷◌, [], length, codes, decimal, IfSome};
 ghost use Rattle.std.specs.Prelude.{MatchOption};
 ghost use Rattle.arrayvec.specs.ArrayVec.{array_vec_len};
-ghost use Rattle.bbm_events.specs.declared.event.Event.{Event};
 ghost use Rattle.bbm_events.specs.declared.event.Event.TheVariants as event;
 ghost use Rattle.bbm_events.specs.Spelling.{hex, joined};
 ghost use Rattle.bbm_events.specs.Words as words;
 ghost use Rattle.bbm_events.specs.Fits.{item_fits};
 ghost use Rattle.bbm_events.specs.Lines.{header_of, item_of, header_fields, cnp_fields, word_fields, header_line};
-ghost use Rattle.bbm_events.specs.Lines.{item_line, lock_text, event_fields, label_fields};
+ghost use Rattle.bbm_events.specs.Lines.{item_line, lock_text, event_fields};
 ghost use Rattle.bbm_log_grammar.specs.Left.{spaced};
 
-use crate::spell::{add, add_decimal, add_digits};
+use crate::spell::{add, add_decimal, add_digits, add_label};
 use crate::words::Worded;
 use arrayvec::ArrayVec;
 use bbm_barriers::{Domain, Dsb, Types};
-use bbm_events::{Event, Header, Item, Label, law_written_is_read};
+use bbm_events::{Event, Header, Item, law_written_is_read};
 use bbm_regimes::{Kind, Page, Pe, Place, Reg, World};
 use bbm_tlbi_scope::TlbiOp;
 
@@ -310,22 +309,8 @@ pub fn write_header(header: &Header, out: &mut ArrayVec<u8, 200>)
     add_words(out, header);
 }
 
-/// A space, the mark `@` and the label, where there is one.
-#[tactic(auto, using(crate::proofs::Parts::parts))]
-fn add_label_field<const N: usize>(out: &mut ArrayVec<u8, N>, label: Option<Label>)
-    requires room { array_vec_len out.old + 100 ≤ N }
-    ensures appended { (front : List ℕ) (event : Event) → out.old.items ≡ front ++ joined (event_fields event)
-        → out.new.items ≡ front ++ joined (event_fields event ++ label_fields label) }
-    ensures longer { array_vec_len out.new ≤ array_vec_len out.old + 34 }
-{
-    if let Some(label) = label {
-        add(out, b" @");
-        add(out, label.bytes());
-    }
-}
-
 /// The line of an item, whatever the header.
-#[tactic(auto, unfolding(bbm_events::specs::Lines::item_line))]
+#[tactic(auto, unfolding(bbm_events::specs::Lines::item_line), using(crate::proofs::Parts::labelled))]
 fn any_line<const N: usize>(item: Item, out: &mut ArrayVec<u8, N>)
     requires room { array_vec_len out.old + 200 ≤ N }
     ensures line { out.new.items ≡ out.old.items ++ item_line item }
@@ -334,7 +319,7 @@ fn any_line<const N: usize>(item: Item, out: &mut ArrayVec<u8, N>)
     match item {
         Item::Event(event, label) => {
             event_line(out, event);
-            add_label_field(out, label);
+            add_label(out, label);
         }
         Item::End(count) => {
             add(out, b"end");

@@ -1,31 +1,17 @@
 //! The line of a verdict.
 
-ghost use Rattle.std.specs.Prelude.{◌≡◌, ◌≤◌, ◌+◌, ◌++◌, [], length};
-ghost use Rattle.arrayvec.specs.ArrayVec.{array_vec_len};
-ghost use Rattle.bbm_rules.specs.Texts.{label_text, verdict_text as text_of_verdict};
+ghost use Rattle.std.specs.Prelude.{◌≡◌, []};
+ghost use Rattle.bbm_rules.specs.Texts.{verdict_text as text_of_verdict};
 
 use crate::names::{cause_words, limit_words, rule_words};
 use arrayvec::ArrayVec;
 use bbm_events::{Label, Malformed};
-use bbm_log_grammar::{add, add_decimal, add_hex};
+use bbm_log_grammar::{add, add_decimal, add_hex, add_label};
 use bbm_regimes::Which;
 use bbm_rules::{Rule, Verdict};
 
-/// A space, the mark `@` and the label, where there is one.
-#[tactic(auto, using(bbm_events::proofs::Labels::label_length))]
-fn add_label(out: &mut ArrayVec<u8, 200>, label: Option<Label>)
-    requires room { array_vec_len out.old ≤ 100 }
-    ensures appended { out.new.items ≡ out.old.items ++ label_text label }
-    ensures longer { array_vec_len out.new ≤ array_vec_len out.old + 34 }
-{
-    if let Some(label) = label {
-        add(out, b" @");
-        add(out, label.bytes());
-    }
-}
-
 /// The text of a refusal.
-#[tactic(auto, unfolding(bbm_rules::specs::Texts::verdict_text))]
+#[tactic(auto, unfolding(bbm_rules::specs::Texts::verdict_text), using(crate::proofs::Labels::label_as_written))]
 fn add_refused(out: &mut ArrayVec<u8, 200>, line: u64, rule: Rule, at: u64, label: Option<Label>)
     requires { out.old.items ≡ [] }
     ensures { out.new.items ≡ text_of_verdict (Verdict.Refused line rule at label) }
