@@ -1,7 +1,7 @@
 //! The pages that an event attaches to a tree.
 //! Source: project's own choice, where no other is named.
 
-ghost use Rattle.std.specs.Prelude.{◌≡◌, ◌<◌, ◌-◌, ◌++◌, ℕ, true, IfOk, IfSome, OnOk};
+ghost use Rattle.std.specs.Prelude.{◌≡◌, ◌-◌, ◌++◌, ℕ, true, IfOk, OnOk};
 ghost use Rattle.std.specs.Prelude.{filter_map, flat_map, map, option_to_list};
 ghost use Rattle.bbm_events.specs.declared.event.Event.{Event};
 ghost use Rattle.bbm_events.specs.Fits.{fits_heading};
@@ -12,11 +12,10 @@ ghost use Rattle.bbm_rules.specs.Values.{value_of as value_at, places_in as plac
 ghost use Rattle.bbm_oracle_trees.specs.Past.{notes};
 
 use crate::starts::root_pages;
-use bbm_descriptor::{Desc, read};
 use bbm_events::Event;
 use bbm_oracle_patterns::Evidence;
 use bbm_oracle_tags::values::{places_in, value_of};
-use bbm_oracle_trees::History;
+use bbm_oracle_trees::{History, next_page};
 use bbm_regimes::{Kind, Level, NoMemory, Page, Place};
 use std::alloc::Global;
 use std::marker::Model;
@@ -59,17 +58,6 @@ impl Model for Attached {
     ghost view = { λ a. record { kind = a.kind; first = a.first.items; deeper = a.deeper.items } };
 }
 
-/// The next page of a value at this kind and level, where it is a table.
-pub fn next_in(kind: Kind, level: Level, value: u64) -> Option<Page>
-    ensures value { result ≡ trees.next_of kind level value }
-    ensures above { IfSome result (λ next. level < 3) }
-{
-    match read(kind, level, value) {
-        Desc::Table { next, .. } => Some(next),
-        _ => None,
-    }
-}
-
 /// Adds the page, where there is one. `NoMemory` where there is none.
 fn add_next(pages: &mut Vec<Page>, next: Option<Page>) -> Result<(), NoMemory>
     ensures { OnOk result (pages.new.items ≡ pages.old.items ++ option_to_list next) }
@@ -97,7 +85,7 @@ fn next_pages<E: Evidence>(
     let mut pages = Vec::new(alloc);
     for place in &places {
         let value = value_of(history.events(), *place);
-        add_next(&mut pages, next_in(kind, level, value))?;
+        add_next(&mut pages, next_page(kind, level, value))?;
     }
     Ok(pages)
 }
@@ -203,7 +191,7 @@ fn attached_by_write<E: Evidence>(
     if history.held_at(node, place).is_some() {
         return Ok(None);
     }
-    match next_in(node.kind, node.level, value) {
+    match next_page(node.kind, node.level, value) {
         Some(next) => {
             let pages = [next];
             let below = node.level.below().unwrap();

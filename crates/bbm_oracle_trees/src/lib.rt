@@ -16,3 +16,4 @@ mod trees;
 pub use clean::maps;
 pub use history::History;
 pub use node::{Above, Node};
+pub use tree::next_page;

@@ -16,8 +16,8 @@ use bbm_oracle_tags::Declared;
 use bbm_regimes::{Kind, Level, NoMemory, Page, Place};
 use std::alloc::Global;
 
-/// The next page of a value at this kind and level; None where it is no table. Source: Arm ARM (DDI 0487),
-/// "VMSAv8-64 descriptor formats".
+/// The next page of a value at this kind and level; None where it is no table, as every value of level 3. Source: Arm
+/// ARM (DDI 0487), "VMSAv8-64 descriptor formats".
 pub fn next_page(kind: Kind, level: Level, value: u64) -> Option<Page>
     ensures value { result ≡ trees.next_of kind level value }
     ensures low { IfSome result (λ next. level < 3) }

@@ -8,4 +8,4 @@ loop-place-preserved g c = filter_map_more
     (λ place. next_of c.args.kind c.args.level (value_of (events_of (notes c.args.history.now)) place))
     c.deref-place-items.result.now c.loop-place.place-index c.place-item.result c.loop-place.pages.items c.add_next.new.pages.items
     (omega arith) c.place-item.is c.loop-place.invariant
-    (rw (c.next_in.ensures.value, c.value_of-value.ensures, c.events-in-loop-place.ensures) at c.in_ok-add_next.ensures)
+    (rw (c.next_page.ensures.value, c.value_of-value.ensures, c.events-in-loop-place.ensures) at c.in_ok-add_next.ensures)
