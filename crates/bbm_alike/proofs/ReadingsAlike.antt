@@ -1,12 +1,12 @@
 -- Where the same registers have the same readable values, and the same roots are declared, the same VMIDs and the same
 -- tags are readable, and a TLBI names the same.
-use Rattle.bbm_rules.proofs.Common.{◌≡◌, ℕ, ◌&&◌, ◌==◌, Bool, true, false, cond, List, ◌++◌, Option, None, filter_map, flat_map}
+use Rattle.bbm_rules.proofs.Common.{◌≡◌, ℕ, ◌&&◌, ◌==◌, Bool, true, false, cond, List, ◌++◌, Option, Some, None, filter_map, flat_map}
 use Rattle.bbm_rules.proofs.Common.{is_none, map, option_and_then, refl, ◌∙◌, ap, result_ok, scoped_by_vmid, AsidFrom}
 use Rattle.bbm_rules.proofs.Common.{FromTtbr0, FromTtbr1, Reg, Ttbr0El2, VttbrEl2, Ttbr0El1, Ttbr1El1, Tag, El2Tag}
-use Rattle.bbm_rules.proofs.Common.{Vmid, Asid, Ttbr1Tag, World, Hyp, Kernel, Heading, Event, TlbiOp, same_tag, any}
+use Rattle.bbm_rules.proofs.Common.{Vmid, Asid, Ttbr1Tag, World, Hyp, Kernel, Heading, Event, Tlbi, TlbiOp, Scope, same_tag, any}
 use Rattle.bbm_rules.proofs.Common.{if_so, one_number, base_of, kind_of_reg, lacks_vmid, named_scope, register_values}
 use Rattle.bbm_rules.proofs.Common.{tag_number, vmid_of, Declared, is_at, roots_of, same_kind, Reading, asid_readings}
-use Rattle.bbm_rules.proofs.Common.{readings, readings_in, readings_of, reads, reads_for_some}
+use Rattle.bbm_rules.proofs.Common.{readings, readings_in, readings_of, reads, reads_for_some, takes_tag, takes_whole_tag}
 use Rattle.bbm_rules.specs.Prelude.{scope_of}
 use Rattle.bbm_rules.specs.RegisterValues.{Standing, standings, vmid_in}
 use Rattle.bbm_rules.specs.Tags.{reading_of, second_readings, standing_reading}
@@ -27,6 +27,19 @@ module _ (h h' : List Event) (registers : SameRegisters h h') where
   pub scope_alike : (heading : Heading) (pe : ℕ) (op : TlbiOp) (xt : ℕ)
       → named_scope heading h pe op xt ≡ named_scope heading h' pe op xt
   scope_alike heading pe op xt = ap (λ (b : Bool). cond b None (result_ok (scope_of op xt))) (lacks_alike heading pe op)
+
+  -- a TLBI takes the same whole tags
+  pub takes_alike : (heading : Heading) (e : Event) (tag : Tag) → takes_tag heading e h tag ≡ takes_tag heading e h' tag
+  takes_alike heading (Tlbi pe op xt) tag =
+      ap (λ (o : Option Scope). elim o as (λ x. Bool) [
+        | None ↦ false
+        | Some scope ↦ takes_whole_tag scope (vmid_of heading h pe) tag
+      ]) (scope_alike heading pe op xt)
+      ∙ ap (λ (v : Option ℕ). elim (named_scope heading h' pe op xt) as (λ x. Bool) [
+        | None ↦ false
+        | Some scope ↦ takes_whole_tag scope v tag
+      ]) (vmid_alike heading pe)
+  takes_alike heading e tag = refl
 
   module _ (roots : roots_of h ≡ roots_of h') where
     reading_alike : (reg : Reg) (tag : ℕ → Tag) (value : ℕ) → reading_of h reg tag value ≡ reading_of h' reg tag value

@@ -1,9 +1,9 @@
 -- One event more, the same in two histories: the same roots hold the same tags, of which the same wait to be taken away.
 use Rattle.bbm_rules.proofs.Common.{◌≡◌, ◌↔◌, ℕ, ◌<◌, Bool, true, false, cond, not, ◌&&◌, ◌||◌, ◌==◌, List, ◌∷◌, ◌++◌}
-use Rattle.bbm_rules.proofs.Common.{Option, Some, None, filter_map, flat_map, refl, sym, ◌∙◌, ap, true≢false, inl, inr}
+use Rattle.bbm_rules.proofs.Common.{filter_map, flat_map, refl, sym, ◌∙◌, ap, true≢false, inl, inr}
 use Rattle.bbm_rules.proofs.Common.{and_parts, or_cases, proved, If, Is, answers, Trust, same_tag, below, Heading}
-use Rattle.bbm_rules.proofs.Common.{Event, Dsb, Tlbi, Scope, Tag, takes_whole_tag, reaches, named_scope}
-use Rattle.bbm_rules.proofs.Common.{vmid_of, roots_of, Reading, distinct, ever_read, holds_at, loses}
+use Rattle.bbm_rules.proofs.Common.{Event, Dsb, Tlbi, Tag, reaches}
+use Rattle.bbm_rules.proofs.Common.{roots_of, Reading, distinct, ever_read, holds_at, loses}
 use Rattle.bbm_rules.proofs.Common.{readings, reads, reads_for_some, tag_for, takes_tag}
 use Rattle.std.proofs.Math.Bool.{and-false}
 use Rattle.bbm_histories.specs.HistorySteps.{is_tlbi, tag_waits, tag_waits_after}
@@ -11,7 +11,7 @@ use Rattle.bbm_alike.specs.Alike.{SameRegisters}
 use Rattle.bbm_alike.specs.SameTags.{SameTags}
 use Rattle.bbm_alike.proofs.Distinct.{distinct_append}
 use Rattle.bbm_alike.proofs.PlainSteps.{registers_step, roots_step}
-use Rattle.bbm_alike.proofs.ReadingsAlike.{readings_alike, reads_alike, reads_some_alike, scope_alike, vmid_alike}
+use Rattle.bbm_alike.proofs.ReadingsAlike.{readings_alike, reads_alike, reads_some_alike, takes_alike}
 use Rattle.bbm_alike.proofs.ListsAlike.{same_flat}
 use Rattle.bbm_rules.proofs.Common.{ends, gives_up, kept_at, left_at, or_left, or_right}
 use Rattle.bbm_rules.specs.TagLaws.{TagKeptBySentence}
@@ -93,23 +93,11 @@ module _ (heading : Heading) (h h' : List Event) (e : Event) (roots : roots_of h
 
   -- ---- the TLBIs that wait to take a tag away
 
-  takes_alike : (x : Event) (tag : Tag) → takes_tag heading x h tag ≡ takes_tag heading x h' tag
-  takes_alike (Tlbi pe op xt) tag =
-      ap (λ (o : Option Scope). elim o as (λ x. Bool) [
-        | None ↦ false
-        | Some scope ↦ takes_whole_tag scope (vmid_of heading h pe) tag
-      ]) (scope_alike h h' registers heading pe op xt)
-      ∙ ap (λ (v : Option ℕ). elim (named_scope heading h' pe op xt) as (λ x. Bool) [
-        | None ↦ false
-        | Some scope ↦ takes_whole_tag scope v tag
-      ]) (vmid_alike h h' registers heading pe)
-  takes_alike x tag = refl
-
   after_alike : (x : Event) (p q : ℕ) (b : Bool) (tag : Tag) → tag_waits heading p tag q b h ≡ tag_waits heading p tag q b h'
       → tag_waits_after heading p tag q b x h ≡ tag_waits_after heading p tag q b x h'
   after_alike (Tlbi pe op xt) p q b tag same =
       ap (λ (c : Bool). (pe == q && (is_tlbi b (Tlbi pe op xt) && (reaches heading (Tlbi pe op xt) p && c)))
-      || tag_waits heading p tag q b h) (takes_alike (Tlbi pe op xt) tag)
+      || tag_waits heading p tag q b h) (takes_alike h h' registers heading (Tlbi pe op xt) tag)
       ∙ ap (λ (c : Bool). (pe == q && (is_tlbi b (Tlbi pe op xt)
       && (reaches heading (Tlbi pe op xt) p && takes_tag heading (Tlbi pe op xt) h' tag))) || c) same
   after_alike (Dsb pe dsb) p q b tag same = ap (λ (c : Bool). cond (pe == q && answers dsb b) false c) same

@@ -1,21 +1,20 @@
 -- Histories that are alike judge alike which TLBIs are needed, and which phases an event keeps.
 use Rattle.bbm_idle.proofs.Common.{Phase, Patterns, Alike, SamePatterns, adds, adds_at, adds_since, is_needed}
 use Rattle.bbm_idle.proofs.Common.{is_needed_at, keeps_phases, takes_of, Known, same_phase}
-use Rattle.bbm_rules.proofs.Common.{◌≡◌, ℕ, ◌<◌, Bool, false, cond, ◌&&◌, ◌||◌, ◌==◌, List, ◌∷◌, Option, Some, None}
-use Rattle.bbm_rules.proofs.Common.{option_and_then, option_map_or, Contains, find, is_none, is_some, map, unwrap_or}
-use Rattle.bbm_rules.proofs.Common.{refl, sym, ◌∙◌, ap, result_ok, every_same, scoped_by_vmid, Cover, PlaceView}
-use Rattle.bbm_rules.proofs.Common.{cover_of, takes_whole_tag, desc_of, every_pe, cleansed, half, seen, cover_at}
-use Rattle.bbm_rules.proofs.Common.{is_global, noted, view_at, ValidWrite, last_valid, any, below, every, one_number}
-use Rattle.bbm_rules.proofs.Common.{Noted, events_of, page_of, Heading, Event, Tlbi, Tag, World, Hyp, Kernel, VttbrEl2}
-use Rattle.bbm_rules.proofs.Common.{Scope, reaches, named_scope, tag_number, vmid_of, Declared, first_pages, given_up, roots_of, distinct}
+use Rattle.bbm_rules.proofs.Common.{◌≡◌, ℕ, ◌<◌, Bool, false, ◌&&◌, ◌||◌, ◌==◌, List, ◌∷◌, Option, Some, None}
+use Rattle.bbm_rules.proofs.Common.{option_and_then, option_map_or, Contains, find, is_some, map, unwrap_or}
+use Rattle.bbm_rules.proofs.Common.{refl, sym, ◌∙◌, ap, every_same, Cover, PlaceView}
+use Rattle.bbm_rules.proofs.Common.{cover_of, desc_of, every_pe, cleansed, half, seen, cover_at}
+use Rattle.bbm_rules.proofs.Common.{is_global, noted, view_at, ValidWrite, last_valid, any, below, every}
+use Rattle.bbm_rules.proofs.Common.{Noted, events_of, page_of, Heading, Event, Tlbi, Tag}
+use Rattle.bbm_rules.proofs.Common.{Scope, reaches, named_scope, vmid_of, Declared, first_pages, given_up, roots_of, distinct}
 use Rattle.bbm_rules.proofs.Common.{◌++◌, ever_read, holds_at, kept_at, left_at, tag_set, tags_of, takes_tag, Node, held_at, is_childless}
 use Rattle.bbm_rules.proofs.Common.{next_of, node_of, region_of, written_places}
 use Rattle.bbm_tlbi_scope.specs.declared.entry.Cover.TheVariants.{None as NoCover}
 use Rattle.bbm_rules.specs.Phases.{phase_of}
 use Rattle.bbm_rules.specs.TagLaws.{TagKeptBySentence}
-use Rattle.bbm_rules.specs.Prelude.{scope_of}
-use Rattle.bbm_rules.specs.RegisterValues.{vmid_in}
 use Rattle.bbm_rules.specs.Tree.{tree}
+use Rattle.bbm_alike.proofs.ReadingsAlike.{takes_alike}
 use Rattle.bbm_idle.proofs.DsbBase.{held_last}
 use Rattle.bbm_idle.proofs.FindLists.{every_alike}
 use Rattle.bbm_lemmas.proofs.Tests.{any_alike}
@@ -61,21 +60,6 @@ module _ (heading : Heading) (h h' : List Event) (a : Alike heading Patterns Pat
 
   -- ---- tags
 
-  same_vmid : (p : ℕ) → vmid_of heading h p ≡ vmid_of heading h' p
-  same_vmid p = by heading.world
-    where
-      by : (world : World) → vmid_in world h p ≡ vmid_in world h' p
-      by (Hyp world) = ap (λ (vs : List ℕ). one_number (map tag_number vs)) (a.registers.values p VttbrEl2)
-      by (Kernel world) = refl
-
-  same_takes : (e : Event) (tag : Tag) → takes_tag heading e h tag ≡ takes_tag heading e h' tag
-  same_takes (Tlbi pe op xt) tag =
-      ap (λ (v : Option ℕ). elim (cond (scoped_by_vmid op && is_none v) None (result_ok (scope_of op xt))) as (λ o. Bool) [
-        | None ↦ false
-        | Some scope ↦ takes_whole_tag scope v tag
-      ]) (same_vmid pe)
-  same_takes e tag = refl
-
   same_kept_at : TagKeptBySentence heading Patterns → (p page : ℕ) (tag : Tag) → p < heading.pes
       → kept_at heading Patterns p page tag h ≡ kept_at heading Patterns p page tag h'
   same_kept_at kept p page tag less =
@@ -90,7 +74,7 @@ module _ (heading : Heading) (h h' : List Event) (a : Alike heading Patterns Pat
       ap (λ (gs : List Tag). any (λ tag. takes_tag heading e h tag && kept_at heading Patterns p page tag h) gs) (a.tags page)
       ∙ any_alike (λ tag. takes_tag heading e h tag && kept_at heading Patterns p page tag h)
       (λ tag. takes_tag heading e h' tag && kept_at heading Patterns p page tag h') (distinct (ever_read heading page h'))
-      (λ tag i. ap (λ (b : Bool). b && kept_at heading Patterns p page tag h) (same_takes e tag)
+      (λ tag i. ap (λ (b : Bool). b && kept_at heading Patterns p page tag h) (takes_alike h h' a.registers heading e tag)
       ∙ ap (λ (b : Bool). takes_tag heading e h' tag && b) (same_kept_at kept p page tag less))
 
   same_pages : first_pages h ≡ first_pages h'
