@@ -33,19 +33,9 @@ pub fn is_first(reg: Reg) -> bool
     matches!(reg, Reg::Ttbr0El2 | Reg::Ttbr0El1)
 }
 
-/// Whether the root is there and is this page.
-fn is_that(root: Option<Page>, page: Page) -> bool
-    ensures { result ≡ spec.is_that root page }
-{
-    match root {
-        Some(root) => root == page,
-        None => false,
-    }
-}
-
 /// Whether one of the values names the root with this first page.
 pub fn names_in(loads: &[RootValue], page: Page) -> bool
     ensures { result ≡ spec.names_in loads.now page }
 {
-    loads.iter().any(|load| is_that(load.root, page))
+    loads.iter().any(|load| load.root == Some(page))
 }
