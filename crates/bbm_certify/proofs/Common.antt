@@ -2,7 +2,7 @@
 pub use Rattle.std.proofs.Common.{insert}
 pub use Rattle.bbm_claims.specs.Flushes.{completed_by, is_flush_of}
 pub use Rattle.bbm_claims.specs.Holdings.{has}
-pub use Rattle.bbm_certify.specs.DueAt.{IsDueAt, IsDueIn, IsDueSince, IsNewest, IsUncleansed, writes_at}
+pub use Rattle.bbm_certify.specs.DueAt.{IsDueAt, IsDueIn, IsDueSince, IsNewest, IsUncleansed}
 pub use Rattle.bbm_certify.specs.KnownOfCertificates.{Known}
 pub use Rattle.bbm_certify.specs.LeastClaims.{Ascending, IsCertificate, IsCleansed, IsDue, IsLeast, OneAt, TakenAt}
 pub use Rattle.bbm_certify.specs.LeastClaims.{TwoAt, claim_key, less}
@@ -16,6 +16,7 @@ pub use Rattle.bbm_certify.specs.declared.patterns.Pattern.{Pattern}
 pub use Rattle.bbm_certify.specs.declared.patterns.Pattern.TheVariants.{One}
 pub use Rattle.bbm_lemmas.proofs.Elements.{split_in}
 pub use Rattle.bbm_oracle_patterns.specs.Kept.{cover_in, note_of, notes_behind, notes_of}
+pub use Rattle.bbm_oracle_patterns.specs.Walk.{is_write_of}
 pub use Rattle.bbm_oracle_patterns.specs.declared.kept.Kept.{Kept}
 pub use Rattle.bbm_oracle_tags.specs.declared.holding.Holding.{Holding}
 pub use Rattle.bbm_oracle_trees.specs.Past.{notes}

@@ -1,5 +1,5 @@
 -- A certificate that is made event by event.
-use Rattle.bbm_certify.proofs.Common.{notes_of, Kept, notes, IsNewest, writes_at, Known, IsCertificate, AreDue}
+use Rattle.bbm_certify.proofs.Common.{notes_of, Kept, notes, IsNewest, is_write_of, Known, IsCertificate, AreDue}
 use Rattle.bbm_certify.proofs.Common.{HasTaken, IsMaking, Adds, AreTaken, IsKnown, ReadsAreWritten}
 use Rattle.bbm_rules.proofs.Common.{◌≡◌, ℕ, suc, ◌-◌, ◌≤◌, true, ◌||◌, List, [], ◌∷◌, ◌++◌, length, take, drop, reverse}
 use Rattle.bbm_rules.proofs.Common.{refl, sym, ◌∙◌, ap, subst, arith, length-append, length-reverse, length-take-le}
@@ -94,7 +94,7 @@ module _ (heading : Heading) (known : Known heading) (m : Making) (h : List Even
   -- what is kept for the next event
   pub making_next : (e : Event) (new : Making) → IsMaking m heading h → keeps heading Patterns (e ∷ h) ≡ true
       → StandsByPatterns new.history heading (e ∷ h)
-      → ((a : ℕ) → among a new.places.items ≡ (writes_at a e || among a m.places.items))
+      → ((a : ℕ) → among a new.places.items ≡ (is_write_of a e || among a m.places.items))
       → (ReadsAreWritten heading h e → IsKnown heading h m.known.items → IsKnown heading (e ∷ h) new.known.items)
       → IsMaking new heading (e ∷ h)
   making_next e new was kept stands places readable = record {

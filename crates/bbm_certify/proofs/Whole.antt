@@ -1,5 +1,5 @@
 -- All claims that are due at an event, and what is kept for the next one.
-use Rattle.bbm_certify.proofs.Common.{Kind, Holding, writes_at, Known, IsCleansed, IsDue, AreDue, Adds, AreTaken}
+use Rattle.bbm_certify.proofs.Common.{Kind, Holding, is_write_of, Known, IsCleansed, IsDue, AreDue, Adds, AreTaken}
 use Rattle.bbm_certify.proofs.Common.{IsKnown}
 use Rattle.bbm_rules.proofs.Common.{◌≡◌, ◌⊎◌, ℕ, Bool, true, false, cond, ◌&&◌, ◌||◌, ◌==◌, List, [], ◌∷◌, Option, Some}
 use Rattle.bbm_rules.proofs.Common.{None, refl, sym, ◌∙◌, ap, inl, inr, or_parts, is_valid, Claim, Place, Two, Taken}
@@ -16,7 +16,7 @@ use Rattle.bbm_certify.proofs.OneDue.{one_due}
 
 -- ---- the places that were written
 
-after_none : (kind : Kind) (level place : ℕ) (e : Event) (n : Noted) (found : Option ValidWrite) → writes_at place e ≡ false
+after_none : (kind : Kind) (level place : ℕ) (e : Event) (n : Noted) (found : Option ValidWrite) → is_write_of place e ≡ false
     → found ≡ None → last_valid_after kind level place e n found ≡ None
 after_none kind level place (Write pe at value) n found other none =
     ap (λ (b : Bool). cond (b && is_valid kind level value) (Some (record { value = value; since = [] })) (later n found)) other
@@ -29,9 +29,9 @@ after_none kind level place (Init pe page) n found other none = by (page == page
 after_none kind level place e n found other none = ap (λ (f : Option ValidWrite). later n f) none
 
 pub written_next : (heading : Heading) (h : List Event) (e : Event) (old new : List ℕ) → AreWritten heading h old
-    → ((a : ℕ) → among a new ≡ (writes_at a e || among a old)) → AreWritten heading (e ∷ h) new
+    → ((a : ℕ) → among a new ≡ (is_write_of a e || among a old)) → AreWritten heading (e ∷ h) new
 written_next heading h e old new all is kind level place none =
-    let parts = or_parts (writes_at place e) (among place old) (sym (is place) ∙ none) in
+    let parts = or_parts (is_write_of place e) (among place old) (sym (is place) ∙ none) in
     after_none kind level place e (note heading Patterns (noted heading Patterns h) e)
     (last_valid kind level place (noted heading Patterns h)) parts.0 (all kind level place parts.1)
 

@@ -1,5 +1,5 @@
 -- The claims of places that are due at an event. No public contract cites these words. Source: project's own choice.
-use Rattle.std.specs.Prelude.{◌≡◌, ℕ, suc, ◌<◌, Bool, false, ◌==◌, List, ◌∷◌, Some}
+use Rattle.std.specs.Prelude.{◌≡◌, ℕ, suc, ◌<◌, false, List, ◌∷◌, Some}
 use Rattle.bbm_events.specs.declared.claim.Claim.{Claim}
 use Rattle.bbm_rules.specs.Claims.{Trust}
 use Rattle.bbm_rules.specs.Claims.Trust.{Patterns}
@@ -9,7 +9,7 @@ use Rattle.bbm_rules.specs.Notes.{Noted}
 use Rattle.bbm_rules.specs.Places.{page_of}
 use Rattle.bbm_regimes.specs.PeMask.{pe_in}
 use Rattle.bbm_regimes.specs.declared.pe.PeMask.{PeMask}
-use Rattle.bbm_rules.specs.Prelude.{Barrier, Heading, Event, Write, Dsb}
+use Rattle.bbm_rules.specs.Prelude.{Barrier, Heading, Event, Dsb}
 use Rattle.bbm_rules.specs.Tree.{Node, node_of}
 use Rattle.bbm_lemmas.specs.Elements.{In}
 pub use Rattle.bbm_certify.specs.Making.{IsLeastClaim}
@@ -52,8 +52,3 @@ IsDueAt heading trust after newest h place c = (n : Node) × (node_of heading tr
 -- of one of these places
 abbrev pub AreDue : Heading → Trust → List Noted → Noted → List Noted → List ℕ → Claim → Type 0
 AreDue heading trust after newest h places c = (a : ℕ) × In places a × IsDueAt heading trust after newest h a c
-
--- the event writes the place
-abbrev pub writes_at : ℕ → Event → Bool
-writes_at a (Write pe at value) = at == a
-writes_at a _ = false

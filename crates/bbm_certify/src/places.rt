@@ -5,6 +5,7 @@ ghost use Rattle.std.specs.Prelude.{◌≡◌, ◌<◌, ◌≤◌, ◌+◌, ◌^
 ghost use Rattle.bbm_rules.specs.Lists.{among};
 ghost use Rattle.bbm_rules.specs.Notes.{Noted};
 ghost use Rattle.bbm_oracle_patterns.specs.Kept.{notes_behind, notes_of};
+ghost use Rattle.bbm_oracle_patterns.specs.Walk.{is_write_of};
 ghost use Rattle.bbm_oracle_trees.specs.Past.{notes};
 ghost use Rattle.bbm_certify.specs.DueAt as spec;
 ghost use Rattle.bbm_certify.specs.Orders.{Adds};
@@ -223,7 +224,7 @@ fn add_place(places: &mut Vec<Place>, place: Place) -> Result<(), NoMemory>
 /// Adds the place that the event writes, where it writes one. `NoMemory` where there is none.
 pub fn add_written(places: &mut Vec<Place>, event: &Event) -> Result<(), NoMemory>
     ensures { OnOk result ((a : ℕ) → among a places.new.items ≡
-        (spec.writes_at a event.now || among a places.old.items)) }
+        (is_write_of a event.now || among a places.old.items)) }
 {
     match *event {
         Event::Write { place, .. } => add_place(places, place),
