@@ -25,7 +25,7 @@ pub plain_is : (line : List ℕ) → plain line ≡ is_plain line
 plain_is [] = refl
 plain_is (byte ∷ bytes) = rw (plain_is bytes) refl
 
-module _ (n count : ℕ) (few : count ≤ 4294967293) (facts : Facts n count) where
+module _ (n count : ℕ) (few : count + 2 ≤ 4294967295) (facts : Facts n count) where
   abbrev fold : Fold Progress Judged
   fold = judging Patterns check_limits
 

@@ -1,6 +1,6 @@
 //! The steps of a run, taken line after line.
 
-ghost use Rattle.std.specs.Prelude.{◌≡◌, ◌*◌, ◌<◌, Some, ok_or};
+ghost use Rattle.std.specs.Prelude.{◌≡◌, ◌+◌, ◌*◌, ◌<◌, Some, ok_or};
 ghost use Rattle.bbm_regimes.specs.declared.regime.TheConstants.{MAX_LINES};
 ghost use Rattle.bbm_follow.specs.Following.{Reached, RunSays};
 ghost use Rattle.bbm_session.specs.Reader.{Reader};
@@ -66,7 +66,7 @@ impl Taker for Following {
 /// Reads a run, follows it, and writes its text. The whole text is read before a step that is none is named.
 pub fn follow<S: Source, K: Sink>(alloc: Global, log: &mut S, out: &mut K) -> Status
     ensures follows { FollowsRun result (streams_of S.left S.faults log.old log.new K.held K.faults out.old out.new) }
-    ensures shrinks { Shrinks (201 * 4294967298) (S.left log.old) (S.left log.new) }
+    ensures shrinks { Shrinks (201 * (MAX_LINES + 3)) (S.left log.old) (S.left log.new) }
 {
     let mut lines = Lines::new();
     match header_line::<Following, S>(&mut lines, log) {

@@ -1,6 +1,7 @@
 //! The judging of a whole log.
 
-ghost use Rattle.std.specs.Prelude.{◌≡◌, ◌*◌, [], Bool, List, MatchResult, length, OnOk, IfErr};
+ghost use Rattle.std.specs.Prelude.{◌≡◌, ◌+◌, ◌*◌, [], Bool, List, MatchResult, length, OnOk, IfErr};
+ghost use Rattle.bbm_regimes.specs.declared.regime.TheConstants.{MAX_LINES};
 ghost use Rattle.bbm_events.specs.declared.event.Event.{Event};
 ghost use Rattle.bbm_events.specs.Heading.{Heading};
 ghost use Rattle.bbm_rules.specs.Outcome.{AtEvents};
@@ -55,7 +56,7 @@ fn judge_lines<C: Checker, S: Source>(
     ensures known { StopsKnown (C.frugal judging.old.checker) (C.stands judging.new.checker) judging.old.limits
         header.now (AtEvents header.now []) result (S.left log.old) (S.left log.new)
         (S.faults log.old) (S.faults log.new) }
-    ensures shrinks { Shrinks (201 * 4294967297) (S.left log.old) (S.left log.new) }
+    ensures shrinks { Shrinks (201 * (MAX_LINES + 2)) (S.left log.old) (S.left log.new) }
 {
     law_item_fits();
     let read = read_log(header, judging, lines, log);
@@ -74,7 +75,7 @@ pub fn judge_log<C: Fresh + Drop, S: Source>(
         (S.left log.old) (S.left log.new) (S.faults log.old) (S.faults log.new))
         (λ stop. (frugal : Bool) → Unjudged frugal limits stop
         (S.left log.old) (S.left log.new) (S.faults log.old) (S.faults log.new)) }
-    ensures shrinks { Shrinks (201 * 4294967298) (S.left log.old) (S.left log.new) }
+    ensures shrinks { Shrinks (201 * (MAX_LINES + 3)) (S.left log.old) (S.left log.new) }
 {
     let mut lines = Lines::new();
     match header_line::<Judging<C>, S>(&mut lines, log) {

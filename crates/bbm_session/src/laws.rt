@@ -1,6 +1,7 @@
 //! Laws of the text of a generated log, and of a log that keeps the rules by a certificate.
 
-ghost use Rattle.std.specs.Prelude.{◌≡◌, ◌≤◌, ◌++◌, ℕ, List, [], length, true};
+ghost use Rattle.std.specs.Prelude.{◌≡◌, ◌+◌, ◌≤◌, ◌++◌, ℕ, List, [], length, true};
+ghost use Rattle.bbm_regimes.specs.declared.regime.TheConstants.{MAX_LINES};
 ghost use Rattle.bbm_certificate.specs.CertificateReading.{Whole, read_of};
 ghost use Rattle.bbm_cert.specs.Judged.{judged};
 ghost use Rattle.bbm_cert.specs.declared.judged.Judged.TheVariants.{Yes};
@@ -38,7 +39,7 @@ use bbm_tlb_machine::{law_isolated, law_one_root_a_tag, law_safe};
 /// accepted, and read whole, and its events are those of the generated log. So what `selftest` writes is the line of
 /// that verdict, and the counts of that log. The call does nothing; the law is its contract.
 pub fn law_generated_is_accepted(n: u64, count: u32)
-    requires lines { count ≤ 4294967293 }
+    requires lines { count + 2 ≤ MAX_LINES }
     ensures accepted { outcome_of Patterns check_limits (gen_text n count)
         ≡ record { says = unrefused (log_of n count) (Accepted count); unread = [] } }
     ensures selftest { selftest_text n count ≡ verdict_text (verdict_of_bytes Patterns check_limits (gen_text n count))

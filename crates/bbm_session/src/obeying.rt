@@ -1,6 +1,7 @@
 //! The commands that judge a log.
 
-ghost use Rattle.std.specs.Prelude.{◌≡◌, ◌*◌, false, List, Some};
+ghost use Rattle.std.specs.Prelude.{◌≡◌, ◌+◌, ◌*◌, false, List, Some};
+ghost use Rattle.bbm_regimes.specs.declared.regime.TheConstants.{MAX_LINES};
 ghost use Rattle.bbm_events.specs.declared.event.Event.{Event};
 ghost use Rattle.bbm_session.specs.Readers.{is_frugal};
 ghost use Rattle.bbm_texts.specs.Says.{shows_evidence};
@@ -51,7 +52,7 @@ pub fn obey<C: Fresh + Drop, S: Source, K: Sink>(
     ensures obeys { ((checker : C) → C.frugal checker ≡ is_frugal command.now)
         → Obeys command.now result
         (streams_of S.left S.faults log.old log.new K.held K.faults out.old out.new) }
-    ensures shrinks { Shrinks (201 * 4294967298) (S.left log.old) (S.left log.new) }
+    ensures shrinks { Shrinks (201 * (MAX_LINES + 3)) (S.left log.old) (S.left log.new) }
 {
     match judge_log::<C, S>(alloc, limits(command), log) {
         Ok(judgement) => report_stopped(

@@ -200,7 +200,7 @@ pub fn read_log<T: Taker, S: Source>(
         → T.stands taker.old reader header.now p 2
         → Ends reader (T.stands taker.new reader header.now) p result (S.left log.old) (S.left log.new)
         (S.faults log.old) (S.faults log.new) }
-    ensures shrinks { Shrinks (201 * 4294967297) (S.left log.old) (S.left log.new) }
+    ensures shrinks { Shrinks (201 * (MAX_LINES + 2)) (S.left log.old) (S.left log.new) }
 {
     match log_lines(header, taker, lines, log) {
         Ok(number) => nothing_follows::<T, S>(number, lines, log),

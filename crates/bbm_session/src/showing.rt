@@ -1,6 +1,7 @@
 //! The commands that show more of the events of a log.
 
-ghost use Rattle.std.specs.Prelude.{◌≡◌, ◌*◌, false, List, Some};
+ghost use Rattle.std.specs.Prelude.{◌≡◌, ◌+◌, ◌*◌, false, List, Some};
+ghost use Rattle.bbm_regimes.specs.declared.regime.TheConstants.{MAX_LINES};
 ghost use Rattle.bbm_events.specs.declared.event.Event.{Event};
 ghost use Rattle.bbm_texts.specs.declared.commands.Command.TheVariants as command_of;
 ghost use Rattle.bbm_session.specs.Stages.{KnowsAt, Shrinks};
@@ -50,7 +51,7 @@ pub fn show<C: Fresh + Logged + Drop, S: Source, K: Sink>(
     ensures obeys { ((checker : C) → C.frugal checker ≡ false)
         → Obeys (command_of.Show evidence.now) result
         (streams_of S.left S.faults log.old log.new K.held K.faults out.old out.new) }
-    ensures shrinks { Shrinks (201 * 4294967298) (S.left log.old) (S.left log.new) }
+    ensures shrinks { Shrinks (201 * (MAX_LINES + 3)) (S.left log.old) (S.left log.new) }
 {
     match judge_log::<C, S>(alloc, limits(&Command::Show(*evidence)), log) {
         Ok(judgement) => report_shown(

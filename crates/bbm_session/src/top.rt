@@ -1,8 +1,9 @@
 //! The top call.
 
-ghost use Rattle.std.specs.Prelude.{◌≡◌, ◌*◌, ◌<◌, ◌^◌, ◌⊎◌, ℕ, List, [], Some, None, IsSome, true, false};
+ghost use Rattle.std.specs.Prelude.{◌≡◌, ◌+◌, ◌*◌, ◌<◌, ◌^◌, ◌⊎◌, ℕ, List, [], Some, None, IsSome, true, false};
 ghost use Rattle.std.specs.Prelude.{length, map};
 ghost use Rattle.std.specs.String.{string_bytes};
+ghost use Rattle.bbm_regimes.specs.declared.regime.TheConstants.{MAX_LINES};
 ghost use Rattle.bbm_io.specs.Faults.{Rose};
 ghost use Rattle.bbm_io.specs.Flow.{preceded, extended};
 ghost use Rattle.bbm_rules.specs.Claims.{Patterns};
@@ -41,7 +42,7 @@ use std::alloc::Global;
 fn judge<S: Source, K: Sink>(alloc: Global, command: &Command, log: &mut S, out: &mut K) -> Status
     ensures obeys { Obeys command.now result
         (streams_of S.left S.faults log.old log.new K.held K.faults out.old out.new) }
-    ensures shrinks { Shrinks (201 * 4294967298) (S.left log.old) (S.left log.new) }
+    ensures shrinks { Shrinks (201 * (MAX_LINES + 3)) (S.left log.old) (S.left log.new) }
 {
     match command {
         Command::Slow => obey::<Oracle, S, K>(alloc, command, log, out),
@@ -56,7 +57,7 @@ fn judge<S: Source, K: Sink>(alloc: Global, command: &Command, log: &mut S, out:
 fn serve<S: Source, K: Sink>(alloc: Global, request: &Request, log: &mut S, out: &mut K) -> Status
     ensures serves { Serves request.now result
         (streams_of S.left S.faults log.old log.new K.held K.faults out.old out.new) }
-    ensures shrinks { Shrinks (201 * 4294967298) (S.left log.old) (S.left log.new) }
+    ensures shrinks { Shrinks (201 * (MAX_LINES + 3)) (S.left log.old) (S.left log.new) }
 {
     match request {
         Request::Judge(command) => judge(alloc, command, log, out),

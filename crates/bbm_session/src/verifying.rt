@@ -1,6 +1,6 @@
 //! A log and its certificate, taken line after line and judged by it.
 
-ghost use Rattle.std.specs.Prelude.{◌≡◌, ◌*◌, ◌<◌, Some, ok_or};
+ghost use Rattle.std.specs.Prelude.{◌≡◌, ◌+◌, ◌*◌, ◌<◌, Some, ok_or};
 ghost use Rattle.bbm_regimes.specs.declared.regime.TheConstants.{MAX_LINES};
 ghost use Rattle.bbm_certificate.specs.CertificateReading.{Reached, CertificateSays};
 ghost use Rattle.bbm_session.specs.Reader.{Reader};
@@ -67,7 +67,7 @@ impl Taker for Verifying {
 /// anything is judged.
 pub fn verify<S: Source, K: Sink>(alloc: Global, log: &mut S, out: &mut K) -> Status
     ensures verifies { Verifies result (streams_of S.left S.faults log.old log.new K.held K.faults out.old out.new) }
-    ensures shrinks { Shrinks (201 * 4294967298) (S.left log.old) (S.left log.new) }
+    ensures shrinks { Shrinks (201 * (MAX_LINES + 3)) (S.left log.old) (S.left log.new) }
 {
     law_header_in_range();
     let mut lines = Lines::new();
