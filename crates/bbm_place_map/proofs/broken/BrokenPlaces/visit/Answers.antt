@@ -1,27 +1,31 @@
-use Rattle.bbm_place_map.proofs.Common.{◌≡◌, ℕ, List, Entry, [], refl, ap, arith, nil_from_length, false≢true, None}
+use Rattle.bbm_place_map.proofs.Common.{◌≡◌, [], refl, arith, nil_from_length, false≢true, None, Some, entry_at}
 use Rattle.bbm_place_map.proofs.Completed.{visited_each, visited_kept, visited_lost}
 use Rattle.bbm_place_map.proofs.Doing.{does_at, does_none}
-use Rattle.bbm_place_map.proofs.Held.{entry_by, sound_seated}
+use Rattle.bbm_place_map.proofs.Held.{sound_seated}
 use Rattle.bbm_place_map.proofs.Listing.{listed_begun}
 use Rattle.bbm_place_map.proofs.Positions.{seats_same}
 use Rattle.bbm_place_map.proofs.Resting.{stays_kept}
 use Rattle.bbm_place_map.proofs.Rounds.{seats_by}
+use Rattle.bbm_place_map.proofs.Seated.{empty_place}
 use Rattle.bbm_place_map.proofs.broken.BrokenPlaces.visit.Goals as goal
 
 pub returns-then-broken-eq0 : goal.returns-then-broken-eq0
 returns-then-broken-eq0 c =
+    let self = c.args.self.now in
     let by = c.args.barrier.now in
-    let list = c.self.inside.entries.list.items in
-    let empty : list ≡ [] = nil_from_length list (omega (arith, c.len-broken.ensures, c.if-broken-eq0.true)) in
-    let gone : (j : ℕ) → entry_by list j ≡ None = λ j. ap (λ (es : List Entry). entry_by es j) empty in
-    rw (← c.self.view_is) (record {
+    let none : self.entries ≡ []
+    = rw (← c.self.view_is)
+    (nil_from_length c.self.inside.entries.list.items (omega (arith, c.len-broken.ensures, c.if-broken-eq0.true))) in
+    record {
       pages = refl;
-      seats = seats_same list;
-      order = seats_by by.effect list list refl (λ m. refl);
-      each = λ j. does_at by.effect by (entry_by list j) None (entry_by list j) None (gone j) (gone j) (does_none by.effect by);
+      seats = seats_same self.entries;
+      order = seats_by by.effect self.entries self.entries refl (λ m. refl);
+      each = λ j.
+          let gone = empty_place self none (Some j) in
+          does_at by.effect by (entry_at self j) None (entry_at self j) None gone gone (does_none by.effect by);
       lost = λ h. absurd (false≢true h);
-      kept = λ _ j. stays_kept (entry_by list j);
-    })
+      kept = λ _ j. stays_kept (entry_at self j);
+    }
 
 pub visit-requires-clause-listed : goal.visit-requires-clause-listed
 visit-requires-clause-listed c =
