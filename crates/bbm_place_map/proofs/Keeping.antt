@@ -4,12 +4,13 @@ use Rattle.bbm_place_map.proofs.Common.{subst, Cover, Found, NotesAmong, NotesAt
 use Rattle.bbm_place_map.proofs.Common.{none-some, position, BrokenMap, ChangesOne, EachAdvances, AtPlace, Entry}
 use Rattle.bbm_place_map.proofs.Common.{cases_eq, inl, same_Some, Advances, AreSeated, IsKept, Issuing, Keeps, Numbered}
 use Rattle.bbm_place_map.proofs.Common.{SameSeats, arith, length, ◌+◌, ◌<◌, ◌≤◌, entry_number, number_at, option_map}
-use Rattle.bbm_place_map.proofs.Advancing.{advance_then, advanced_from, all_done, column_kept, done_more, one_advances}
-use Rattle.bbm_place_map.proofs.Advancing.{position_kept, rest_more, self_advances}
+use Rattle.bbm_place_map.proofs.Common.{slice_get_within}
+use Rattle.bbm_place_map.proofs.Advancing.{advance_then, advanced_from, by_entries, column_kept, one_advances}
+use Rattle.bbm_place_map.proofs.Advancing.{self_advances}
 use Rattle.bbm_place_map.proofs.Noting.{among_over, at_over, gets_same}
 use Rattle.bbm_place_map.proofs.Numbers.{number_from, numbers_kept}
 use Rattle.bbm_place_map.proofs.Places.{index_once}
-use Rattle.bbm_place_map.proofs.Positions.{seats_by, seats_kept}
+use Rattle.bbm_place_map.proofs.Positions.{seats_by}
 use Rattle.bbm_place_map.proofs.Seats.{by_index, entry_there}
 
 pub seats_all : (old : BrokenMap) → SameSeats old old
@@ -28,58 +29,80 @@ each_then {A} {B} C {old} {mid} {new} a b by = record {
 }
 
 -- one entry changed
-pub one_changed : {R : Entry → Entry → Type 0} (S : Entry → Entry → Type 0) {old new : BrokenMap} {k : ℕ} → ChangesOne k R old new
-    → (e : Entry) → slice_get old.entries k ≡ Some e → ((f : Entry) → position f ≡ position e → R e f → S e f)
-    → ((m : ℕ) (x : Entry) → m ≢ k → slice_get old.entries m ≡ Some x → S x x) → EachAdvances (λ _. S) old new
+pub one_changed : {R : Entry → Entry → Type 0} (S : ℕ → Entry → Entry → Type 0) {old new : BrokenMap} {k : ℕ} → ChangesOne k R old new
+    → (e : Entry) → slice_get old.entries k ≡ Some e → ((f : Entry) → R e f → S k e f)
+    → ((m : ℕ) (x : Entry) → m ≢ k → slice_get old.entries m ≡ Some x → S m x x) → EachAdvances S old new
 one_changed S {old} {new} {k} c e was now others =
     let f = c.entry e was in
-    record {
-      same = c.same;
-      each = one_advances S old.entries new.entries k e f.0 was f.1 (now f.0 f.1 f.2) f.3 others;
-    }
+    record { same = c.same; each = one_advances S old.entries new.entries k e f.0 was f.1 (now f.0 f.2) f.3 others }
 
--- The entries below a number changed each in its place, and no other did.
-pub record ChangedBelow (R : ℕ → Entry → Entry → Type 0) (k : ℕ) (old new : BrokenMap) : Type 0 where
-  pub same : SameSeats old new
-  pub done : (m : ℕ) → m < k → Advances (R m) (slice_get old.entries m) (slice_get new.entries m)
-  pub rest : (m : ℕ) → k ≤ m → slice_get new.entries m ≡ slice_get old.entries m
+-- An entry below a number changed as the relation says, and no other did.
+pub record Below (R : ℕ → Entry → Entry → Type 0) (k m : ℕ) (e f : Entry) : Type 0 where
+  pub done : m < k → R m e f
+  pub rest : k ≤ m → f ≡ e
 
-pub below_none : (R : ℕ → Entry → Entry → Type 0) (old : BrokenMap) → ChangedBelow R 0 old old
-below_none R old = record { same = seats_all old; done = λ m below. absurd (omega (arith, below)); rest = λ m above. refl }
+pub below_none : (R : ℕ → Entry → Entry → Type 0) (old : BrokenMap) → EachAdvances (Below R 0) old old
+below_none R old = record {
+  same = seats_all old;
+  each = λ m.
+      self_advances (Below R 0 m) (slice_get old.entries m)
+      (λ x _. record { done = λ below. absurd (omega (arith, below)); rest = λ _. refl });
+}
 
--- so does the next one
-pub below_more : {R : ℕ → Entry → Entry → Type 0} {Q : Entry → Entry → Type 0} {k : ℕ} {old mid new : BrokenMap} → ChangedBelow R k old mid
-    → k < length old.entries → ChangesOne k Q mid new → ((e f : Entry) → Q e f → R k e f) → ChangedBelow R (k + 1) old new
-below_more {R} {Q} {k} {old} {mid} {new} below within c by =
-    let e = entry_there mid.entries k (omega (arith, within, below.same.len)) in
-    let f = c.entry e.0 e.1 in
-    record {
-      same = seats_more below.same c.same;
-      done = done_more R old.entries mid.entries new.entries k e.0 f.0 below.done below.rest e.1 f.1 (by e.0 f.0 f.2) f.3;
-      rest = rest_more R old.entries mid.entries new.entries k e.0 f.0 below.done below.rest e.1 f.1 (by e.0 f.0 f.2) f.3;
-    }
+module _ {R : ℕ → Entry → Entry → Type 0} {k : ℕ} {old mid : BrokenMap} (below : EachAdvances (Below R k) old mid) where
+  pub below_rest : (m : ℕ) → k ≤ m → slice_get mid.entries m ≡ slice_get old.entries m
+  below_rest m above =
+      column_kept (λ o. o) (Below R k m) (λ e f _ h. ap (λ (x : Entry). Some x) (h.rest above)) (slice_get old.entries m)
+      (slice_get mid.entries m) (below.each m)
 
-pub below_kept : {R : ℕ → Entry → Entry → Type 0} {k : ℕ} {old mid : BrokenMap} → ChangedBelow R k old mid → k < length old.entries
-    → ((e : Entry) → R k e e) → ChangedBelow R (k + 1) old mid
-below_kept {R} {k} {old} {mid} below within stays =
-    let none : ChangesOne k (R k) mid mid
-    = record { same = seats_all mid; entry = λ e is. (e, refl, stays e, gets_same mid.entries k e is) } in
-    below_more below within none (λ e f h. h)
+  pub below_all : length old.entries ≤ k → EachAdvances R old mid
+  below_all whole = record {
+    same = below.same;
+    each = λ m.
+        by_entries (Below R k m) (λ o p. slice_get old.entries m ≡ o → Advances (R m) o p) (λ _. tt)
+        (λ e f seated h is. (seated, h.done (omega (arith, whole, slice_get_within old.entries m e is)))) (slice_get old.entries m)
+        (slice_get mid.entries m) (below.each m) refl;
+  }
 
-pub below_all : {R : ℕ → Entry → Entry → Type 0} {k : ℕ} {old new : BrokenMap} → ChangedBelow R k old new → length old.entries ≤ k
-    → EachAdvances R old new
-below_all {R} {k} {old} {new} below whole =
-    record { same = below.same; each = all_done R old.entries new.entries k whole below.done below.rest }
+  -- so does the next one
+  pub below_more : {Q : Entry → Entry → Type 0} {new : BrokenMap} → k < length old.entries → ChangesOne k Q mid new
+      → ((e f : Entry) → Q e f → R k e f) → EachAdvances (Below R (k + 1)) old new
+  below_more within c by =
+      let e = entry_there mid.entries k (omega (arith, within, below.same.len)) in
+      each_then (Below R (k + 1)) below
+      (one_changed (λ m e f. (m ≡ k → R m e f) × (m ≢ k → f ≡ e)) c e.0 e.1 (λ f h. (λ _. by e.0 f h, λ other. absurd (other refl)))
+      (λ m x other _. (λ same. absurd (other same), λ _. refl)))
+      (λ m e f g _ h h'. record {
+        done = λ low.
+            elim (cases_eq m k) [
+              | inl same ↦ subst (λ (x : Entry). R m x g) (h.rest (omega (arith, same))) (h'.0 same)
+              | inr other ↦ subst (R m e) (sym (h'.1 other)) (h.done (omega (arith, low, other)))
+            ];
+        rest = λ high. h'.1 (λ same. absurd (omega (arith, high, same))) ∙ h.rest (omega (arith, high));
+      })
 
-pub moved : (R : ℕ → Entry → Entry → Type 0) (old new : List Entry) → ((m : ℕ) → Advances (R m) (slice_get old m) (slice_get new m)) → AreSeated old new
-moved R old new each = seats_kept old new (λ m. position_kept (R m) (slice_get old m) (slice_get new m) (each m))
+  pub below_kept : k < length old.entries → ((e : Entry) → R k e e) → EachAdvances (Below R (k + 1)) old mid
+  below_kept within stays =
+      let none : ChangesOne k (R k) mid mid
+      = record { same = seats_all mid; entry = λ e is. (e, refl, stays e, gets_same mid.entries k e is) } in
+      below_more within none (λ e f h. h)
 
--- each place has the number that it had
-pub numbers_moved : {R : ℕ → Entry → Entry → Type 0} {old new : BrokenMap} → EachAdvances R old new → (j : ℕ) → number_at new j ≡ number_at old j
-numbers_moved {R} {old} {new} changed =
-    numbers_kept old.entries new.entries (λ m.
-    column_kept (option_map (λ (e : Entry). e.index)) (R m) (λ e f seated _. ap (λ (p : ℕ × ℕ × ℕ). Some p.1) seated)
-    (slice_get old.entries m) (slice_get new.entries m) (changed.each m))
+module _ {R : ℕ → Entry → Entry → Type 0} {old new : BrokenMap} (changed : EachAdvances R old new) where
+  -- where an entry is after there was one before
+  pub each_from : (m : ℕ) (f : Entry) → slice_get new.entries m ≡ Some f
+      → (e : Entry) × (slice_get old.entries m ≡ Some e) × (position f ≡ position e) × R m e f
+  each_from m f is =
+      advanced_from (R m) (slice_get old.entries m) f (subst (Advances (R m) (slice_get old.entries m)) is (changed.each m))
+
+  pub seats_moved : AreSeated old.entries new.entries
+  seats_moved m f is = let e = each_from m f is in (m, e.0, e.1, e.2)
+
+  -- each place has the number that it had
+  pub numbers_moved : (j : ℕ) → number_at new j ≡ number_at old j
+  numbers_moved =
+      numbers_kept old.entries new.entries (λ m.
+      column_kept (option_map (λ (e : Entry). e.index)) (R m) (λ e f seated _. ap (λ (p : ℕ × ℕ × ℕ). Some p.1) seated)
+      (slice_get old.entries m) (slice_get new.entries m) (changed.each m))
 
 -- the places stay where the pages say
 pub kept_moved : {base : ℕ → Option ℕ} {R : ℕ → Entry → Entry → Type 0} {old new : BrokenMap} → IsKept base old → EachAdvances R old new → IsKept base new
@@ -87,12 +110,12 @@ kept_moved {base} {R} {old} {new} kept changed =
     let N : ℕ → Type 0 = λ n. Numbered base (512 * n) in
     record {
       once = λ k f is.
-          let e = advanced_from (R k) (slice_get old.entries k) f (subst (Advances (R k) (slice_get old.entries k)) is (changed.each k)) in
+          let e = each_from changed k f is in
           numbers_moved changed f.index ∙ ap (λ (p : ℕ × ℕ × ℕ). number_at old p.1) e.2 ∙ kept.once k e.0 e.1;
       numbered = subst N (sym changed.same.pages) kept.numbered;
       placed =
           seats_by (λ p. index_of base p.0 ≡ Some p.1) old.entries new.entries
-          (moved R old.entries new.entries changed.each) kept.placed;
+          (seats_moved changed) kept.placed;
     }
 
 module _ {base : ℕ → Option ℕ} {broken : BrokenMap} (kept : IsKept base broken) (place : ℕ) where
@@ -114,7 +137,7 @@ module _ {base : ℕ → Option ℕ} {broken : BrokenMap} (kept : IsKept base br
       → ChangesOne k R broken new → EachAdvances (λ _. AtPlace place R) broken new
   place_changed {R} {new} k at changes =
       let e = place_of_number k at in
-      one_changed (AtPlace place R) changes e.0 e.1 (λ f _ h. (λ here. h, λ other. absurd (other e.2)))
+      one_changed (λ _. AtPlace place R) changes e.0 e.1 (λ f h. (λ here. h, λ other. absurd (other e.2)))
       (λ m x other is. (λ here. absurd (other (same_Some m k (sym (number_of_place m x is here) ∙ at))), λ apart. refl))
 
   pub place_none : (R : Entry → Entry → Type 0) → entry_number base broken place ≡ None → EachAdvances (λ _. AtPlace place R) broken broken

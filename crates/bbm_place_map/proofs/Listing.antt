@@ -306,13 +306,13 @@ module _ (old new : Entries) (k : ℕ) (e f : Entry) (was : slice_get old.list.i
   listed_made kept w listed =
       let L : Vec ℕ Global → Type 0 = λ v. Listed w v.items new.list.items in
       subst L (sym same) (listed_roomed old.cells.items old.list.items new.list.items
-      (one_advances Keeps old.list.items new.list.items k e f was seated kept gets (λ m x _ _. (refl, refl))) w listed)
+      (one_advances (λ _. Keeps) old.list.items new.list.items k e f was seated kept gets (λ m x _ _. (refl, refl))) w listed)
 
   pub listed_after : (by : Issuing) (w : Work) (lists : Vec WorkList Global) → OnlyNotes old new w.waiting.items lists.items → KeepsOthers by.issuer e f
       → Waits lists.items by.issuer e f → Listed w old.cells.items old.list.items → Listed (record w { waiting = lists }) new.cells.items new.list.items
   listed_after by w lists rest others waits listed =
       let L : Vec ℕ Global → Type 0 = λ v. Listed (record w { waiting = lists }) v.items new.list.items in
       subst L (sym same) (listed_noted old.cells.items old.list.items new.list.items by w lists old.linked
-      (one_advances (KeepsOthers by.issuer) old.list.items new.list.items k e f was seated others gets (λ m x _ _. (refl, λ q _. refl)))
-      (one_advances (Waits lists.items by.issuer) old.list.items new.list.items k e f was seated waits gets (λ m x _ _ wide. inr (λ quiet. quiet)))
+      (one_advances (λ _. KeepsOthers by.issuer) old.list.items new.list.items k e f was seated others gets (λ m x _ _. (refl, λ q _. refl)))
+      (one_advances (λ _. Waits lists.items by.issuer) old.list.items new.list.items k e f was seated waits gets (λ m x _ _ wide. inr (λ quiet. quiet)))
       rest.kept listed)

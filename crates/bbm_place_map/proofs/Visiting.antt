@@ -1,8 +1,7 @@
 -- Where a TLBI is noted at the places of a few items, and at no others.
-use Rattle.bbm_place_map.proofs.Common.{◌≡◌, ℕ, true, false, nat_eq, List, [], ◌∷◌, ◌++◌, Option, Some, None, ap}
-use Rattle.bbm_place_map.proofs.Common.{sym, subst, ◌∙◌, inl, inr, cases_Bool, eq-eqb, eqb-true, false≢true, Cover}
-use Rattle.bbm_place_map.proofs.Common.{Advances, position, cover_in, is_found, NotesAs, AtPlace, NotesFound}
-use Rattle.bbm_place_map.proofs.Common.{Entry, Found, Issuing}
+use Rattle.bbm_place_map.proofs.Common.{◌≡◌, ℕ, true, false, nat_eq, List, [], ◌∷◌, ◌++◌, ap, sym, subst, ◌∙◌, inl, inr}
+use Rattle.bbm_place_map.proofs.Common.{cases_Bool, eq-eqb, eqb-true, false≢true, Cover, position, cover_in, is_found}
+use Rattle.bbm_place_map.proofs.Common.{NotesAs, AtPlace, NotesFound, Entry, Found, Issuing}
 use Rattle.bbm_place_map.proofs.Finding.{cover_here, cover_off, cover_old, found_here, found_off}
 
 -- one more item
@@ -47,10 +46,3 @@ module _ (xs : List Found) (x : Found) (by : Issuing) where
           λ none. before.1 (sym (found_off xs x e.place off) ∙ none),
         )
       ]
-
--- an entry whose place isn't among the items is as it was
-pub unfound_kept : (xs : List Found) (by : Issuing) (o : Option Entry) (e : Entry)
-    → Advances (NotesFound xs by) o (Some e) → is_found xs e.place ≡ false → o ≡ Some e
-unfound_kept xs by None e h none = absurd h
-unfound_kept xs by (Some e') e h none =
-    ap (λ (y : Entry). Some y) (sym (h.1.1 (ap (λ (s : ℕ × ℕ × ℕ). is_found xs s.0) (sym h.0) ∙ none)))

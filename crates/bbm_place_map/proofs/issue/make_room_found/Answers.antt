@@ -1,9 +1,8 @@
-use Rattle.bbm_place_map.proofs.Common.{Advances, AtPlace, Entry, HasRoom, Some, subst, ℕ, ◌≡◌, nat_eq, ap, sym, ◌∙◌}
-use Rattle.bbm_place_map.proofs.Common.{inl, inr, slice_get, take, List, cases_Bool, eq-eqb, eqb-true, false≢true}
-use Rattle.bbm_place_map.proofs.Common.{is_found, Keeps, Found, refl}
-use Rattle.bbm_place_map.proofs.Advancing.{advanced_from, self_advances}
+use Rattle.bbm_place_map.proofs.Common.{Entry, Some, ℕ, ◌≡◌, nat_eq, ap, sym, ◌∙◌, inl, inr, slice_get, take, List}
+use Rattle.bbm_place_map.proofs.Common.{cases_Bool, eq-eqb, eqb-true, false≢true, is_found, Keeps, Found, refl}
+use Rattle.bbm_place_map.proofs.Advancing.{self_advances}
 use Rattle.bbm_place_map.proofs.Finding.{found_off, take_more}
-use Rattle.bbm_place_map.proofs.Keeping.{keeps_then, kept_moved, seats_all}
+use Rattle.bbm_place_map.proofs.Keeping.{each_from, keeps_then, kept_moved, seats_all}
 use Rattle.bbm_place_map.proofs.issue.make_room_found.Goals as goal
 
 pub make_room_for-requires : goal.make_room_for-requires
@@ -23,12 +22,10 @@ loop-i-preserved c =
     let x = c.index-found-i.result in
     let xs = take c.loop-i.i c.args.found.now in
     let made = c.in_ok-make_room_for.ensures in
-    let mid = c.loop-i.broken.entries in
     record {
       each = keeps_then c.loop-i.invariant.each made;
       ready = λ m e is among.
-          let R = AtPlace x.place (λ e f. Keeps e f × HasRoom f.pends c.args.lane) in
-          let was = advanced_from R (slice_get mid m) e (subst (Advances R (slice_get mid m)) is (made.each m)) in
+          let was = each_from made m e is in
           let place : e.place ≡ was.0.place = ap (λ (p : ℕ × ℕ × ℕ). p.0) was.2 in
           elim (cases_Bool (nat_eq x.place e.place)) [
             | inl here ↦ (was.3.0 (sym place ∙ sym (eqb-true x.place e.place here))).1

@@ -1,5 +1,5 @@
-use Rattle.bbm_place_map.proofs.Common.{◌≡◌, ℕ, true, Some, slice_get, take, EachAdvances, HasRoom}
-use Rattle.bbm_place_map.proofs.Common.{is_found, Keeps, Entry}
+use Rattle.bbm_place_map.proofs.Common.{◌≡◌, ℕ, true, Some, slice_get, take, EachAdvances, HasRoom, is_found, Keeps}
+use Rattle.bbm_place_map.proofs.Common.{Entry}
 use Rattle.bbm_place_map.proofs.issue.make_room_found.Given as goal
 
 abbrev pub invariant-loop-i : goal.invariant-loop-i

@@ -1,6 +1,6 @@
 use Rattle.bbm_place_map.proofs.Common.{arith, sym, ◌∙◌, NotesAt}
 use Rattle.bbm_place_map.proofs.Issued.{cover_read}
-use Rattle.bbm_place_map.proofs.Keeping.{below_all, below_more, below_none}
+use Rattle.bbm_place_map.proofs.Keeping.{below_all, below_more, below_none, below_rest}
 use Rattle.bbm_place_map.proofs.Noting.{notes_at}
 use Rattle.bbm_place_map.proofs.issue.note.Goals as goal
 
@@ -10,7 +10,7 @@ note-requires-clause-within c = omega (arith, c.loop-k.invariant.same.len)
 pub note-requires-clause-ready : goal.note-requires-clause-ready
 note-requires-clause-ready c = λ e is cover.
     c.requires.ready c.loop-k.k e
-    (sym (c.loop-k.invariant.rest c.loop-k.k (omega arith)) ∙ is) c.get-cover.result
+    (sym (below_rest c.loop-k.invariant c.loop-k.k (omega arith)) ∙ is) c.get-cover.result
     (cover_read c.args.covers.now c.loop-k.k c.index-covers-k.result c.get-cover.result (omega arith) c.index-covers-k.is c.get-cover.ensures) cover
 
 pub loop-k-init : goal.loop-k-init

@@ -1,10 +1,9 @@
-use Rattle.bbm_place_map.proofs.Common.{Option, arith, refl, List, subst, take, slice_get, Advances, EachAdvances}
-use Rattle.bbm_place_map.proofs.Common.{NotesFound, Entry, Found, NoCover}
+use Rattle.bbm_place_map.proofs.Common.{arith, refl, List, subst, take, slice_get, EachAdvances, NotesFound, Entry}
+use Rattle.bbm_place_map.proofs.Common.{Found, NoCover, ap, sym, ◌∙◌, ◌≡◌, ℕ, is_found, Some}
 use Rattle.std.proofs.lemmas.List.{take_all}
 use Rattle.bbm_place_map.proofs.Advancing.{self_advances}
-use Rattle.bbm_place_map.proofs.Keeping.{kept_moved, seats_all}
+use Rattle.bbm_place_map.proofs.Keeping.{each_from, kept_moved, seats_all}
 use Rattle.bbm_place_map.proofs.Noting.{not_noted}
-use Rattle.bbm_place_map.proofs.Visiting.{unfound_kept}
 use Rattle.bbm_place_map.proofs.issue.note_found.Goals as goal
 
 pub loop-i-init : goal.loop-i-init
@@ -20,12 +19,9 @@ note_next-requires-clause-sound c = kept_moved c.requires.sound c.loop-i.invaria
 
 pub note_next-requires-clause-ready : goal.note_next-requires-clause-ready
 note_next-requires-clause-ready c = λ m e is among none.
-    c.requires.ready m e
-    (unfound_kept (take c.loop-i.i c.args.found.now) c.args.tlbi.now (slice_get c.args.broken.now.entries m) e
-    (let P : Option Entry → Type 0 = λ o. Advances (NotesFound (take c.loop-i.i c.args.found.now) c.args.tlbi.now)
-    (slice_get c.args.broken.now.entries m) o in
-    subst P is (c.loop-i.invariant.each m)) none)
-    among
+    let x = each_from c.loop-i.invariant m e is in
+    let same : e ≡ x.0 = x.3.1 (ap (λ (p : ℕ × ℕ × ℕ). is_found (take c.loop-i.i c.args.found.now) p.0) (sym x.2) ∙ none) in
+    c.requires.ready m e (x.1 ∙ ap (λ (y : Entry). Some y) (sym same)) among
 
 pub loop-i-preserved : goal.loop-i-preserved
 loop-i-preserved c = c.note_next.ensures c.args.broken.now c.loop-i.invariant

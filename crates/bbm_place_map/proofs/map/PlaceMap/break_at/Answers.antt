@@ -1,8 +1,7 @@
-use Rattle.bbm_place_map.proofs.Common.{refl, arith, sym, ap, ◌∙◌, false≢true, Broken, at_index, None, entry_at}
-use Rattle.bbm_place_map.proofs.Common.{place_entry}
+use Rattle.bbm_place_map.proofs.Common.{refl, arith, sym, ap, ◌∙◌, Broken, at_index, None, entry_at, place_entry}
 use Rattle.bbm_place_map.proofs.Blank.{no_entry}
-use Rattle.bbm_place_map.proofs.Clearing.{fits_put, marks_broken, pends_broken, value_put}
-use Rattle.bbm_place_map.specs.Map.{pages_of, marks_at, pends_at, value_at, IsPosition}
+use Rattle.bbm_place_map.proofs.Clearing.{fits_put, place_broken, value_put}
+use Rattle.bbm_place_map.specs.Map.{marks_at, IsPosition}
 use Rattle.bbm_place_map.proofs.map.PlaceMap.break_at.Goals as goal
 
 pub break_over-requires-clause-within : goal.break_over-requires-clause-within
@@ -23,19 +22,10 @@ invariant_of-self c =
     fits_put c.args.self.now c.put_value.new.values c.put_value.ensures.len c.value_number-j.ensures.index c.break_over.ensures.2
 
 pub returns : goal.returns
-unfolding IsPosition pages_of marks_at pends_at value_at
 returns c =
     let self = c.args.self.now in
     let e = c.break_over.ensures in
     record {
-      written = (
-        Broken e.0,
-        e.1,
-        record {
-          marks = marks_broken self c.value_number-j.ensures.index e.2;
-          pends = λ q a _. pends_broken self c.value_number-j.ensures.index e.2 q a;
-          dropped = λ q is. absurd (false≢true (sym is));
-        },
-      );
-      put = record { values = value_put self c.put_value.new.values.items _ _ c.value_number-j.ensures.index c.put_value.ensures.values; pages = refl };
+      written = (Broken e.0, e.1, place_broken self _ refl c.value_number-j.ensures.index e.2);
+      put = value_put self _ refl c.value_number-j.ensures.index c.put_value.ensures.values;
     }

@@ -1,7 +1,6 @@
 use Rattle.bbm_place_map.proofs.Bases.{base_first}
 use Rattle.bbm_place_map.proofs.Common.{refl, sym, ◌∙◌}
 use Rattle.bbm_place_map.proofs.Clearing.{fits_seated, frees_untracked, page_cleared}
-use Rattle.bbm_place_map.specs.Map.{marks_at, pends_at}
 use Rattle.bbm_place_map.proofs.map.PlaceMap.release.Goals as goal
 
 pub clear_page-requires : goal.clear_page-requires
@@ -12,10 +11,8 @@ invariant_of-self c =
     fits_seated c.args.self.now c.args.self.now.values c.clear_page.new.self refl c.clear_page.ensures.pages c.clear_page.ensures.seats
 
 pub returns-in-Some-clause-freed : goal.returns-in-Some-clause-freed
-unfolding marks_at pends_at
 returns-in-Some-clause-freed c =
-    let all = page_cleared c.args.self.now c.args.page (sym c.base.ensures.base ∙ c.in-Some.is) c.clear_page.ensures in
-    record { marks = all.marks; pends = all.pends; dropped = all.dropped }
+    page_cleared c.args.self.now _ refl (sym c.base.ensures.base ∙ c.in-Some.is) c.clear_page.ensures
 
 pub returns-in-None-clause-freed : goal.returns-in-None-clause-freed
 returns-in-None-clause-freed c =

@@ -1,11 +1,11 @@
 use Rattle.bbm_place_map.proofs.Bases.{base_first, numbered_in}
-use Rattle.bbm_place_map.proofs.Common.{◌≡◌, ℕ, nat_eq, ap, sym, ◌∙◌, vec_len, if◌then◌else◌, bases, OnOk-map, value_in}
-use Rattle.bbm_place_map.proofs.Common.{page_of, at_index, Frees, split_at}
+use Rattle.bbm_place_map.proofs.Common.{refl, ◌≡◌, ℕ, nat_eq, ap, sym, ◌∙◌, vec_len, if◌then◌else◌, bases, OnOk-map}
+use Rattle.bbm_place_map.proofs.Common.{value_in, page_of, at_index, Frees, split_at}
 use Rattle.bbm_place_map.proofs.Bases.{numbered_in}
 use Rattle.bbm_place_map.specs.MapCalls.{KeepsBroken}
 use Rattle.bbm_place_map.proofs.Clearing.{fits_seated, frees_untracked, page_cleared}
 use Rattle.bbm_place_map.proofs.Places.{at_page, index_none}
-use Rattle.bbm_place_map.specs.Map.{marks_at, pends_at, value_at}
+use Rattle.bbm_place_map.specs.Map.{value_at}
 use Rattle.bbm_place_map.proofs.map.PlaceMap.track.Goals as goal
 
 pub clear_page-requires : goal.clear_page-requires
@@ -24,10 +24,8 @@ returns-in-Some-clause-values c =
     (value_in c.zero_page.new.values.items) c.args.page c.in-Some.base (sym c.base.ensures.base ∙ c.in-Some.is) c.zero_page.ensures.values
 
 pub returns-in-Some-clause-freed : goal.returns-in-Some-clause-freed
-unfolding marks_at pends_at
 returns-in-Some-clause-freed c =
-    let all = page_cleared c.args.self.now c.args.page (sym c.base.ensures.base ∙ c.in-Some.is) c.clear_page.ensures in
-    record { marks = all.marks; pends = all.pends; dropped = all.dropped }
+    page_cleared c.args.self.now _ refl (sym c.base.ensures.base ∙ c.in-Some.is) c.clear_page.ensures
 
 pub returns-in-None-clause-values : goal.returns-in-None-clause-values
 unfolding value_at
