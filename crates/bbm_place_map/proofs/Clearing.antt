@@ -1,4 +1,4 @@
--- A map whose broken places changed.
+-- A map whose values or broken places changed.
 use Rattle.bbm_place_map.proofs.Common.{◌*◌, length, ◌≡◌, ℕ, Bool, true, false, Some, None, nat_eq, ap, sym, subst}
 use Rattle.bbm_place_map.proofs.Common.{eqb-true, ◌∙◌, vec_len, if◌then◌else◌, cond-false, cond-true, Vec, Global}
 use Rattle.bbm_place_map.proofs.Common.{bases, in_page, marks_of, page_of, pends_of, IsIdle, Placed, at_index, index_of}
@@ -60,10 +60,10 @@ module _ (map new : PlaceMap) (pages : new.pages ≡ map.pages) where
   }
 
   -- a place is broken
-  pub place_broken : {place j : ℕ} {marks : Marks} → index_of (bases map.pages) place ≡ Some j → Breaks j place marks map.broken new.broken
+  pub place_marked : {place j : ℕ} {marks : Marks} → index_of (bases map.pages) place ≡ Some j → Breaks j place marks map.broken new.broken
       → Leaves (Broken marks) place map new
   unfolding marks_at pends_at
-  place_broken {place} {j} at breaks =
+  place_marked {place} {j} at breaks =
       let put : (a : ℕ) → place_entry new a ≡ (if nat_eq a place then Some breaks.entry.0 else place_entry map a)
       = λ a. entry_then a ∙ at_place (bases map.pages) (vec_len map.values) (numbered_in map) None (Some breaks.entry.0)
       (entry_at map.broken) (entry_at new.broken) place j at breaks.entry.3 a in

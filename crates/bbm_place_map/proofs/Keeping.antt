@@ -105,7 +105,8 @@ module _ {R : ℕ → Entry → Entry → Type 0} {old new : BrokenMap} (changed
       (slice_get old.entries m) (slice_get new.entries m) (changed.each m))
 
 -- the places stay where the pages say
-pub kept_moved : {base : ℕ → Option ℕ} {R : ℕ → Entry → Entry → Type 0} {old new : BrokenMap} → IsKept base old → EachAdvances R old new → IsKept base new
+pub kept_moved : {base : ℕ → Option ℕ} {R : ℕ → Entry → Entry → Type 0} {old new : BrokenMap} → IsKept base old → EachAdvances R old new
+    → IsKept base new
 kept_moved {base} {R} {old} {new} kept changed =
     let N : ℕ → Type 0 = λ n. Numbered base (512 * n) in
     record {

@@ -57,4 +57,5 @@ module _ {old map : PlaceMap} (kept : KeepsItems old map) (page : ℕ) (untracke
         points_more grown None (entry_at map.broken) (entry_at broken) (same_entries map.broken broken same)
         (λ i past. entry_past map i (omega (arith, past, map.counted))) a
         ∙ ap (λ (ps : List ℕ). at_index None (entry_at map.broken) (index_of (bases ps) a)) kept.pages
-        ∙ at_same None (entry_at old.broken) (entry_at map.broken) (same_entries old.broken map.broken kept.broken.entries) (index_of (bases old.pages) a)
+        ∙ at_same None (entry_at old.broken) (entry_at map.broken) (same_entries old.broken map.broken kept.broken.entries)
+        (index_of (bases old.pages) a)

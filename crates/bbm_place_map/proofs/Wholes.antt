@@ -1,7 +1,6 @@
 -- What a write leaves, by the calls that it makes.
 use Rattle.bbm_place_map.proofs.Common.{◌≡◌, ℕ, nat_eq, Option, Some, refl, ap, ◌∙◌, subst, if◌then◌else◌, Core}
-use Rattle.bbm_place_map.proofs.Common.{Written, Marks, EntryState, Live, marks_of_state}
-use Rattle.bbm_place_map.proofs.Common.{PlaceMap}
+use Rattle.bbm_place_map.proofs.Common.{Written, Marks, EntryState, Live, marks_of_state, Clean, Leaves, PlaceMap}
 use Rattle.bbm_place_map.specs.MapCalls.{WritesAs}
 use Rattle.bbm_place_map.specs.Map.{pages_of, marks_at, pends_at, value_at}
 
@@ -15,6 +14,10 @@ made old pe core = record {
   half = λ p. refl;
   clean = λ p. refl;
 }
+
+-- a place that is live after has nothing that waits, as one that is clean
+pub left_live : {place : ℕ} {old new : PlaceMap} (core : Core) → Leaves Clean place old new → Leaves (Live core) place old new
+left_live core left = record { marks = left.marks; pends = left.pends; dropped = left.dropped }
 
 -- it is the same over another map that tells the same, at a place in an equal state
 pub writes_over : {before : EntryState} {pe : ℕ} {core : Option Core} {value place : ℕ} {old new : PlaceMap}

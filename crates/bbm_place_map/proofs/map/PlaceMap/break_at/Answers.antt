@@ -1,6 +1,6 @@
 use Rattle.bbm_place_map.proofs.Common.{refl, arith, sym, ap, ◌∙◌, Broken, at_index, None, entry_at, place_entry}
 use Rattle.bbm_place_map.proofs.Blank.{no_entry}
-use Rattle.bbm_place_map.proofs.Clearing.{fits_put, place_broken, value_put}
+use Rattle.bbm_place_map.proofs.Clearing.{fits_put, place_marked, value_put}
 use Rattle.bbm_place_map.specs.Map.{marks_at, IsPosition}
 use Rattle.bbm_place_map.proofs.map.PlaceMap.break_at.Goals as goal
 
@@ -26,6 +26,6 @@ returns c =
     let self = c.args.self.now in
     let e = c.break_over.ensures in
     record {
-      written = (Broken e.0, e.1, place_broken self _ refl c.value_number-j.ensures.index e.2);
+      written = (Broken e.0, e.1, place_marked self _ refl c.value_number-j.ensures.index e.2);
       put = value_put self _ refl c.value_number-j.ensures.index c.put_value.ensures.values;
     }

@@ -1,4 +1,5 @@
 use Rattle.bbm_place_map.proofs.Common.{sym, subst, EntryState, Leaves}
+use Rattle.bbm_place_map.proofs.Wholes.{left_live}
 use Rattle.bbm_place_map.proofs.map.PlaceMap.clear_from.Goals as goal
 
 pub returns-in-Broken : goal.returns-in-Broken
@@ -20,12 +21,7 @@ returns-in-Clean c =
 pub returns-in-Live : goal.returns-in-Live
 returns-in-Live c =
     let P : EntryState → Type 0 = λ s. Leaves s c.args.position.now.place c.args.self.now c.put_unbroken-in-Live.new.self in
-    let left = c.put_unbroken-in-Live.ensures.left in
     record {
-      written = (
-        c.write.result,
-        c.write.ensures,
-        subst P (sym c.in-Live.is) (record { marks = left.marks; pends = left.pends; dropped = left.dropped }),
-      );
+      written = (c.write.result, c.write.ensures, subst P (sym c.in-Live.is) (left_live _ c.put_unbroken-in-Live.ensures.left));
       put = c.put_unbroken-in-Live.ensures.put;
     }

@@ -1,5 +1,5 @@
 use Rattle.bbm_place_map.proofs.Common.{refl, arith}
-use Rattle.bbm_place_map.proofs.Clearing.{fits_put, place_broken, value_put}
+use Rattle.bbm_place_map.proofs.Clearing.{fits_put, place_marked, value_put}
 use Rattle.bbm_place_map.specs.Map.{IsPosition}
 use Rattle.bbm_place_map.proofs.map.PlaceMap.put_broken.Goals as goal
 
@@ -18,4 +18,4 @@ pub returns-clause-put : goal.returns-clause-put
 returns-clause-put c = value_put c.args.self.now _ refl c.value_number-j.ensures.index c.put_value.ensures.values
 
 pub returns-clause-left : goal.returns-clause-left
-returns-clause-left c = place_broken c.args.self.now _ refl c.value_number-j.ensures.index c.mark.ensures
+returns-clause-left c = place_marked c.args.self.now _ refl c.value_number-j.ensures.index c.mark.ensures

@@ -9,6 +9,7 @@ returns c =
     let self = c.args.self.now in
     let e = c.item.result.now in (
       e.marks,
-      ap (λ (a : ℕ). marks_of (place_entry self a)) (place_is self c.args.i e c.item.ensures) ∙ ap marks_of (entry_here self c.law_once.ensures c.args.i e c.item.ensures),
+      ap (λ (a : ℕ). marks_of (place_entry self a)) (place_is self c.args.i e c.item.ensures)
+          ∙ ap marks_of (entry_here self c.law_once.ensures c.args.i e c.item.ensures),
       refl,
     )

@@ -28,4 +28,5 @@ pub returns-clause-none : goal.returns-clause-none
 unfolding IsPosition marks_at
 returns-clause-none c = λ none.
     let self = c.args.self.now in
-    ap marks_of (ap (at_index None (entry_at self.broken)) c.value_number-j.ensures.index ∙ ap (entry_of self.broken.entries) (sym c.number.ensures ∙ none))
+    ap marks_of (ap (at_index None (entry_at self.broken)) c.value_number-j.ensures.index
+    ∙ ap (entry_of self.broken.entries) (sym c.number.ensures ∙ none))
