@@ -17,20 +17,17 @@ base_number pages p b is = based (number_in pages p) b is
 pub base_first : (pages : List ℕ) (p b : ℕ) → bases pages p ≡ Some b → b % 512 ≡ 0
 base_first pages p b is = let n = base_number pages p b is in omega (arith, n.2)
 
-pub numbered_by : (pages : List ℕ) (count : ℕ) → 512 * length pages ≡ count → Numbered (bases pages) count
-numbered_by pages count all = record {
-  within = λ p b is.
-      let n = base_number pages p b is in
-      omega (arith, all, n.2, number_within pages p n.0 n.1);
-  apart = λ p q b c is is' low high.
-      let n = base_number pages p b is in
-      let m = base_number pages q c is' in
-      let same : n.0 ≡ m.0 = omega (arith, n.2, m.2, low, high) in
-      same_Some p q (sym (number_is pages p n.0 n.1) ∙ number_is pages q n.0 (m.1 ∙ ap (λ (k : ℕ). Some k) (sym same)));
-}
-
 pub numbered_in : (map : PlaceMap) → Numbered (bases map.pages) (vec_len map.values)
-numbered_in map = numbered_by map.pages (vec_len map.values) map.counted
+numbered_in map = record {
+  within = λ p b is.
+      let n = base_number map.pages p b is in
+      omega (arith, map.counted, n.2, number_within map.pages p n.0 n.1);
+  apart = λ p q b c is is' low high.
+      let n = base_number map.pages p b is in
+      let m = base_number map.pages q c is' in
+      let same : n.0 ≡ m.0 = omega (arith, n.2, m.2, low, high) in
+      same_Some p q (sym (number_is map.pages p n.0 n.1) ∙ number_is map.pages q n.0 (m.1 ∙ ap (λ (k : ℕ). Some k) (sym same)));
+}
 
 pub is_kept : (map : PlaceMap) → IsOnce map.broken → IsKept (bases map.pages) map.broken
 is_kept map once =

@@ -16,10 +16,10 @@ module _ {X : Type 0} (d : X) (f : ℕ → X) (base : ℕ → Option ℕ) (page 
   at_cell all a same None h = refl
   at_cell all a same (Some j) h = ap f (sym (cell_of base page b a j is same h)) ∙ all (a % 4096 / 8) (omega arith)
 
-  pub at_places : ((i : ℕ) → i < 512 → f (b + i) ≡ d) → (a : ℕ) → a / 4096 * 4096 ≡ page → at_index d f (index_of base a) ≡ d
+  at_places : ((i : ℕ) → i < 512 → f (b + i) ≡ d) → (a : ℕ) → a / 4096 * 4096 ≡ page → at_index d f (index_of base a) ≡ d
   at_places all a same = at_cell all a same (index_of base a) refl
 
-  pub at_cells : page % 4096 ≡ 0 → ((a : ℕ) → a / 4096 * 4096 ≡ page → at_index d f (index_of base a) ≡ d)
+  at_cells : page % 4096 ≡ 0 → ((a : ℕ) → a / 4096 * 4096 ≡ page → at_index d f (index_of base a) ≡ d)
       → (i : ℕ) → i < 512 → f (b + i) ≡ d
   at_cells aligned all i below =
       let same = page_at page i aligned below in

@@ -52,7 +52,7 @@ module _ {R : ℕ → Entry → Entry → Type 0} (map new : PlaceMap) (pages : 
   marks_kept same a =
       by_place (λ o p. marks_of p ≡ marks_of o) a (λ _. refl) (λ m e f _ _ h. ap (λ (x : Marks). Some x) (same m e f h))
 
-  pub pends_kept : (q : ℕ) → ((m : ℕ) (e f : Entry) → R m e f → pends_in f.pends.items q ≡ pends_in e.pends.items q)
+  pends_kept : (q : ℕ) → ((m : ℕ) (e f : Entry) → R m e f → pends_in f.pends.items q ≡ pends_in e.pends.items q)
       → (a : ℕ) → pends_at new q a ≡ pends_at map q a
   unfolding pends_at
   pends_kept q same a = by_place (λ o p. pends_of q p ≡ pends_of q o) a (λ _. refl) (λ m e f _ _ h. same m e f h)

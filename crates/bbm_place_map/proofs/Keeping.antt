@@ -16,7 +16,7 @@ use Rattle.bbm_place_map.proofs.Seats.{by_index, entry_there}
 pub seats_all : (old : BrokenMap) → SameSeats old old
 seats_all old = record { pages = refl; len = refl }
 
-pub seats_more : {old mid new : BrokenMap} → SameSeats old mid → SameSeats mid new → SameSeats old new
+seats_more : {old mid new : BrokenMap} → SameSeats old mid → SameSeats mid new → SameSeats old new
 seats_more a b = record { pages = b.pages ∙ a.pages; len = b.len ∙ a.len }
 
 pub each_then : {A B : ℕ → Entry → Entry → Type 0} (C : ℕ → Entry → Entry → Type 0) {old mid new : BrokenMap} → EachAdvances A old mid
@@ -29,7 +29,7 @@ each_then {A} {B} C {old} {mid} {new} a b by = record {
 }
 
 -- one entry changed
-pub one_changed : {R : Entry → Entry → Type 0} (S : ℕ → Entry → Entry → Type 0) {old new : BrokenMap} {k : ℕ} → ChangesOne k R old new
+one_changed : {R : Entry → Entry → Type 0} (S : ℕ → Entry → Entry → Type 0) {old new : BrokenMap} {k : ℕ} → ChangesOne k R old new
     → (e : Entry) → slice_get old.entries k ≡ Some e → ((f : Entry) → R e f → S k e f)
     → ((m : ℕ) (x : Entry) → m ≢ k → slice_get old.entries m ≡ Some x → S m x x) → EachAdvances S old new
 one_changed S {old} {new} {k} c e was now others =
@@ -37,39 +37,39 @@ one_changed S {old} {new} {k} c e was now others =
     record { same = c.same; each = one_advances S old.entries new.entries k e f.0 was f.1 (now f.0 f.2) f.3 others }
 
 -- An entry below a number changed as the relation says, and no other did.
-pub record Below (R : ℕ → Entry → Entry → Type 0) (k m : ℕ) (e f : Entry) : Type 0 where
+pub record ChangesBelow (R : ℕ → Entry → Entry → Type 0) (k m : ℕ) (e f : Entry) : Type 0 where
   pub done : m < k → R m e f
   pub rest : k ≤ m → f ≡ e
 
-pub below_none : (R : ℕ → Entry → Entry → Type 0) (old : BrokenMap) → EachAdvances (Below R 0) old old
+pub below_none : (R : ℕ → Entry → Entry → Type 0) (old : BrokenMap) → EachAdvances (ChangesBelow R 0) old old
 below_none R old = record {
   same = seats_all old;
   each = λ m.
-      self_advances (Below R 0 m) (slice_get old.entries m)
+      self_advances (ChangesBelow R 0 m) (slice_get old.entries m)
       (λ x _. record { done = λ below. absurd (omega (arith, below)); rest = λ _. refl });
 }
 
-module _ {R : ℕ → Entry → Entry → Type 0} {k : ℕ} {old mid : BrokenMap} (below : EachAdvances (Below R k) old mid) where
+module _ {R : ℕ → Entry → Entry → Type 0} {k : ℕ} {old mid : BrokenMap} (below : EachAdvances (ChangesBelow R k) old mid) where
   pub below_rest : (m : ℕ) → k ≤ m → slice_get mid.entries m ≡ slice_get old.entries m
   below_rest m above =
-      column_kept (λ o. o) (Below R k m) (λ e f _ h. ap (λ (x : Entry). Some x) (h.rest above)) (slice_get old.entries m)
+      column_kept (λ o. o) (ChangesBelow R k m) (λ e f _ h. ap (λ (x : Entry). Some x) (h.rest above)) (slice_get old.entries m)
       (slice_get mid.entries m) (below.each m)
 
   pub below_all : length old.entries ≤ k → EachAdvances R old mid
   below_all whole = record {
     same = below.same;
     each = λ m.
-        by_entries (Below R k m) (λ o p. slice_get old.entries m ≡ o → Advances (R m) o p) (λ _. tt)
+        by_entries (ChangesBelow R k m) (λ o p. slice_get old.entries m ≡ o → Advances (R m) o p) (λ _. tt)
         (λ e f seated h is. (seated, h.done (omega (arith, whole, slice_get_within old.entries m e is)))) (slice_get old.entries m)
         (slice_get mid.entries m) (below.each m) refl;
   }
 
-  -- so does the next one
+  -- so does the next entry
   pub below_more : {Q : Entry → Entry → Type 0} {new : BrokenMap} → k < length old.entries → ChangesOne k Q mid new
-      → ((e f : Entry) → Q e f → R k e f) → EachAdvances (Below R (k + 1)) old new
+      → ((e f : Entry) → Q e f → R k e f) → EachAdvances (ChangesBelow R (k + 1)) old new
   below_more within c by =
       let e = entry_there mid.entries k (omega (arith, within, below.same.len)) in
-      each_then (Below R (k + 1)) below
+      each_then (ChangesBelow R (k + 1)) below
       (one_changed (λ m e f. (m ≡ k → R m e f) × (m ≢ k → f ≡ e)) c e.0 e.1 (λ f h. (λ _. by e.0 f h, λ other. absurd (other refl)))
       (λ m x other _. (λ same. absurd (other same), λ _. refl)))
       (λ m e f g _ h h'. record {
@@ -81,7 +81,7 @@ module _ {R : ℕ → Entry → Entry → Type 0} {k : ℕ} {old mid : BrokenMap
         rest = λ high. h'.1 (λ same. absurd (omega (arith, high, same))) ∙ h.rest (omega (arith, high));
       })
 
-  pub below_kept : k < length old.entries → ((e : Entry) → R k e e) → EachAdvances (Below R (k + 1)) old mid
+  pub below_kept : k < length old.entries → ((e : Entry) → R k e e) → EachAdvances (ChangesBelow R (k + 1)) old mid
   below_kept within stays =
       let none : ChangesOne k (R k) mid mid
       = record { same = seats_all mid; entry = λ e is. (e, refl, stays e, gets_same mid.entries k e is) } in

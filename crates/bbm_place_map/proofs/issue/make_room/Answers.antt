@@ -2,7 +2,7 @@ use Rattle.bbm_place_map.proofs.Common.{◌≡◌, ◌<◌, ◌+◌, ap, refl, a
 use Rattle.bbm_place_map.proofs.Common.{same_Some, BrokenMap, EachAdvances, Cover, Some, is_cover, true}
 use Rattle.bbm_place_map.specs.PlaceNotes.{Readies}
 use Rattle.bbm_place_map.proofs.Issued.{cover_read}
-use Rattle.bbm_place_map.proofs.Keeping.{Below, below_all, below_kept, below_more, below_none}
+use Rattle.bbm_place_map.proofs.Keeping.{ChangesBelow, below_all, below_kept, below_more, below_none}
 use Rattle.bbm_place_map.proofs.issue.make_room.Goals.{then-is_cover+in_ok-make_room, else-is_cover}
 use Rattle.bbm_place_map.proofs.issue.make_room.Goals as goal
 
@@ -14,7 +14,7 @@ loop-k-preserved c =
     let k = c.loop-k.k in
     let covers = c.args.covers.now in
     let within : k < length c.args.broken.now.entries = omega arith in
-    let P : BrokenMap → Type 0 = EachAdvances (Below (Readies c.args.lane covers) (k + 1)) c.args.broken.now in
+    let P : BrokenMap → Type 0 = EachAdvances (ChangesBelow (Readies c.args.lane covers) (k + 1)) c.args.broken.now in
     elim c.if-is_cover.branch [
       | then-is_cover+in_ok-make_room w ↦
           subst P (sym w.broken-is) (below_more c.loop-k.invariant within w.in_ok-make_room.ensures (λ e f h. (h.0.0, h.0.1, λ x _ _. h.1)))
