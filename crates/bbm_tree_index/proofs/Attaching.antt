@@ -48,9 +48,10 @@ module _ {S : Type 0} {tables : List (IndexMap ℕ Mark S)} {old : TreeIndex} {m
     fresh_after p = fresh_hung ready (role_in new) roles_hung p
         ∙ ap (λ o. is_fresh_role (role_in old p) && is_none o) (sym (node_new p))
 
-    null_after : (p : ℕ) → null_in new p ≡ null_in old p
-    unfolding null_in
-    null_after p = null_hung ready (role_in new) roles_hung p
-
     pub attaches : Attaches (value_at map) at old new
-    attaches = record { node = λ p m. (node_from p m, node_to p m); fresh = fresh_after; null = null_after }
+    unfolding null_in
+    attaches = record {
+      node = λ p m. (node_from p m, node_to p m);
+      fresh = fresh_after;
+      null = null_hung ready (role_in new) roles_hung;
+    }

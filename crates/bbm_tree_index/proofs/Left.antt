@@ -38,13 +38,10 @@ module _ (old : TreeIndex) (map : PlaceMap) (leaving : Leaving) where
         → (p : ℕ) → test (role_in new p) ≡ test (role_in old p)
     role_left test gone none p = grind (arith, roles p, none (role_in old p))
 
-    fresh_left : (p : ℕ) → fresh_in new p ≡ fresh_in old p
-    unfolding fresh_in
-    fresh_left = role_left is_fresh_role refl (λ role e. (leaver_out map (role_in old) leaving role e).0)
-
-    null_left : (p : ℕ) → null_in new p ≡ null_in old p
-    unfolding null_in
-    null_left = role_left is_null_role refl (λ role e. (leaver_out map (role_in old) leaving role e).1)
-
     pub trees_left : KeepsOnly (stays map leaving) old new
-    trees_left = record { node = node_left; fresh = fresh_left; null = null_left }
+    unfolding fresh_in null_in
+    trees_left = record {
+      node = node_left;
+      fresh = role_left is_fresh_role refl (λ role e. (leaver_out map (role_in old) leaving role e).0);
+      null = role_left is_null_role refl (λ role e. (leaver_out map (role_in old) leaving role e).1);
+    }
