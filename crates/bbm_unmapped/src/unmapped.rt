@@ -39,7 +39,7 @@ pub struct Unmapped {
 
 impl Unmapped {
     ghost use Rattle.std.specs.Prelude.{◌≡◌, ◌<◌, ◌↔◌, ◌==◌, ◌++◌, ◌∷◌, [], ℕ, true, false, not, ◌&&◌, Some, None, IsSome, OnOk};
-    ghost use Rattle.std.specs.Prelude.{is_some, length, nat_le, nat_lt, slice_get, if◌then◌else◌};
+    ghost use Rattle.std.specs.Prelude.{IfSome, is_some, length, nat_le, nat_lt, slice_get, if◌then◌else◌};
     ghost use Rattle.bbm_page_map.specs.PageLists.{number_in};
     ghost use Rattle.bbm_place_map.specs.Map.{pages_of};
     ghost use Rattle.bbm_tree_index.specs.HeldCores.{core_at};
@@ -84,16 +84,31 @@ impl Unmapped {
         *self.pages.at(number).1
     }
 
+    /// The number of the page, where it is free.
+    #[inline(always)]
+    fn free_number(&self, map: &PlaceMap, page: Page) -> Option<usize>
+        requires { IsNumberedBy self.now map.now }
+        ensures free { is_some result ≡ free_in self.now page }
+        ensures at { IfSome result (λ number. slice_get (pages_in self.now) number ≡ Some page) }
+    {
+        let Some(known) = map.number(page) else {
+            return None;
+        };
+        let number = known.get();
+        if self.leaves(number, page).free {
+            Some(number)
+        } else {
+            None
+        }
+    }
+
     /// Whether the page is free.
     #[inline(always)]
     fn is_free(&self, map: &PlaceMap, page: Page) -> bool
         requires { IsNumberedBy self.now map.now }
         ensures { result ≡ free_in self.now page }
     {
-        match map.number(page) {
-            Some(number) => self.leaves(number.get(), page).free,
-            None => false,
-        }
+        self.free_number(map, page).is_some()
     }
 
     /// Keeps this of the page that has this number.
@@ -279,8 +294,8 @@ impl Unmapped {
         ensures free { (p : ℕ) → free_in self.new p ≡ (free_in self.old p && not (p == page)) }
         ensures may { (table p : ℕ) → may_map self.new table p ≡ may_map self.old table p }
     {
-        if let Some(number) = map.number(page) {
-            self.set_free(number.get(), page, false);
+        if let Some(number) = self.free_number(map, page) {
+            self.set_free(number, page, false);
         }
     }
 
@@ -328,16 +343,13 @@ impl Unmapped {
         ensures free { result ≡ None → (p : ℕ) → free_in self.new p ≡ (free_in self.old p && not (p == page)) }
         ensures may { (table p : ℕ) → may_map self.new table p ≡ may_map self.old table p }
     {
-        let Some(number) = map.number(page) else {
+        let Some(number) = self.free_number(map, page) else {
             return None;
         };
-        if !self.leaves(number.get(), page).free {
-            return None;
-        }
-        if index.standing(number.get()).1.is_some() {
+        if index.standing(number).1.is_some() {
             return Some(page);
         }
-        self.set_free(number.get(), page, false);
+        self.set_free(number, page, false);
         None
     }
 
