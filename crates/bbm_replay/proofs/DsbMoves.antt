@@ -7,6 +7,7 @@ use Rattle.bbm_rules.proofs.Common.{◌≡◌, ℕ, Bool, true, false, cond, ◌
 use Rattle.bbm_rules.proofs.Common.{Some, None, is_some, refl, sym, ◌∙◌, ap, subst, and_parts, eqb-true, not-true}
 use Rattle.bbm_rules.proofs.Common.{and_right, is_non, core_of, is_valid, Core, Cover, fits_heading, Patterns, held}
 use Rattle.bbm_rules.proofs.Common.{every, page_of, Barrier, Heading, Event, Dsb, Above, Node, arith, Ok}
+use Rattle.bbm_lemmas.proofs.Words.{none_is}
 use Rattle.bbm_replay_entries.specs.EntryEvents.{Heard}
 use Rattle.bbm_replay_trees.specs.Told.{core_at, next_in}
 use Rattle.bbm_place_map.specs.MapCalls.{lost_table}
@@ -16,15 +17,12 @@ use Rattle.bbm_roots.specs.RootsStand as roots
 use Rattle.bbm_replay.proofs.Moves.{Completes, Hears, Leaves, SamePages, SameTracked}
 use Rattle.bbm_replay.proofs.Aparts.{apart_leaves, apart_same, was_there}
 use Rattle.bbm_replay.proofs.Cases.{either, some_or}
-use Rattle.bbm_replay.proofs.Entries.{entry_same, none_of, some_next, some_pe}
+use Rattle.bbm_replay.proofs.Entries.{broken_marks, by_break, entry_same, some_next, some_pe}
 use Rattle.bbm_replay.proofs.Quiet.{told_next}
 use Rattle.bbm_replay.proofs.Writing.{cores}
 use Rattle.bbm_replay.proofs.Ways.{state_core}
 use Rattle.bbm_tree_index.specs.Index.{pages_in}
 use Rattle.bbm_replay.proofs.Framing.{meets_left}
-
-pub broken_marks : (live : Option Core) (m : Option Marks) → is_broken (state_from live m) ≡ is_some m
-broken_marks live m = grind arith
 
 -- of a broken place the state is one whatever its live core
 pub same_state : (live live' : Option Core) (m : Option Marks) → is_some m ≡ true → state_from live m ≡ state_from live' m
@@ -48,7 +46,7 @@ module _ {heading : Heading} (laws : Laws heading) {h : List Event} {old mid new
       ∙ ap (λ b. is_some (core_in (state_from None (new.marks a))) && b) (broken_marks None (mid.marks a))
 
   pub whole_stays : (a : ℕ) → old.marks a ≡ None → new.marks a ≡ None
-  whole_stays a k = none_of (new.marks a) (completed_marks a
+  whole_stays a k = none_is (new.marks a) (completed_marks a
       ∙ and_right (is_some (core_in (state_from None (new.marks a)))) (is_some (mid.marks a))
       (heard_marks a ∙ ap (λ (m : Option Marks). is_some m) k))
 
@@ -62,23 +60,12 @@ module _ {heading : Heading} (laws : Laws heading) {h : List Event} {old mid new
     abbrev live : Option Core
     live = core_of n.kind n.level (old.value a)
 
-    whole_entry : old.marks a ≡ None
-        → EntryStands heading (e ∷ h) n.kind n.level a (state_of new n.kind n.level a) (waiting new a)
-    whole_entry k =
-        let s = t.entries n a is in
-        let unbroken : is_broken (state_of old n.kind n.level a) ≡ false
-        = broken_marks live (old.marks a) ∙ ap (λ (m : Option Marks). is_some m) k in
-        let same : state_of old n.kind n.level a ≡ state_of new n.kind n.level a = cc (value_same a, whole_stays a k, k) in
-        entry_same laws
-        (laws.dsb.whole h n.kind n.level a q dsb (state_of old n.kind n.level a) (waiting old a) (some_pe laws t) unbroken s)
-        same (λ p b c i. none_waits a (whole_stays a k) p b c i ∙ sym (s.idle unbroken p b c i))
-
     broken_entry : is_some (old.marks a) ≡ true
         → EntryStands heading (e ∷ h) n.kind n.level a (state_of new n.kind n.level a) (waiting new a)
     broken_entry k =
         let s = t.entries n a is in
         let now_broken : is_broken (state_of old n.kind n.level a) ≡ true = broken_marks live (old.marks a) ∙ k in
-        let dead : live ≡ None = none_of live (laws.core_where_valid n.kind n.level (old.value a)
+        let dead : live ≡ None = none_is live (laws.core_where_valid n.kind n.level (old.value a)
         ∙ ap (λ (x : ℕ). is_valid n.kind n.level x) (t.values a)
         ∙ not-true _ (and_parts _ _ (sym s.broken ∙ now_broken)).1) in
         let same_mid : state_from live (mid.marks a) ≡ state_from None (mid.marks a)
@@ -99,7 +86,11 @@ module _ {heading : Heading} (laws : Laws heading) {h : List Event} {old mid new
         (entry_same laws s refl (λ p. hears.pends p a)))
 
     pub dsb_entry : EntryStands heading (e ∷ h) n.kind n.level a (state_of new n.kind n.level a) (waiting new a)
-    dsb_entry = some_or (old.marks a) (λ m k. broken_entry (ap (λ (m : Option Marks). is_some m) k)) whole_entry
+    dsb_entry = by_break laws new t e n a is (value_same a) broken_entry (λ k whole s. (
+      whole_stays a k,
+      λ p b c i. none_waits a (whole_stays a k) p b c i ∙ sym (s.idle whole p b c i),
+      laws.dsb.whole h n.kind n.level a q dsb _ (waiting old a) (some_pe laws t) whole s,
+    ))
 
   abbrev holds : Kind → ℕ → ℕ → Bool
   holds kind level a = is_some (core_at new kind level a)

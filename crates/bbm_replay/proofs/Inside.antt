@@ -6,7 +6,7 @@ use Rattle.bbm_replay.proofs.Common.{PlaceMap, TreeIndex, state_at, Roots, View,
 use Rattle.bbm_replay.proofs.Common.{is_contiguous_core, is_global_core, step_fault, TreeFault, Rules, Admitted}
 use Rattle.bbm_replay.proofs.Common.{core_in, Kind, WritesTree, IsAt, Links, IsUnlocked, MayAdmit, Meets, PartsStand}
 use Rattle.bbm_replay.proofs.Common.{view_of, Told, state_of, ReplayState, Admits, StepFault, TableMapped}
-use Rattle.bbm_replay.proofs.Common.{kept_next, NullWritten, RewrittenFresh}
+use Rattle.bbm_replay.proofs.Common.{kept_next}
 use Rattle.std.specs.Prelude.{IfSome}
 use Rattle.bbm_rules.proofs.Common.{◌≡◌, ℕ, ◌<◌, ◌%◌, Bool, true, false, not, ◌&&◌, ◌⊎◌, ◌==◌, List, ◌∷◌, Option, Some}
 use Rattle.bbm_rules.proofs.Common.{None, is_none, is_some, option_and_then, Result, Ok, Err, refl, sym, ◌∙◌, ap, subst}
@@ -29,14 +29,12 @@ use Rattle.bbm_tree_index.specs.declared.role.Attach.TheVariants as attach
 use Rattle.bbm_replay.proofs.Moves.{Attaches, Writes, tracked_alike}
 use Rattle.bbm_place_map.specs.Map.{pages_of}
 use Rattle.std.proofs.Common.{length}
-use Rattle.bbm_rules.specs.Broken.{first_broken}
 use Rattle.bbm_rules.specs.Mapped.{maps}
 use Rattle.bbm_rules.specs.Rules.{table_mapped}
 use Rattle.bbm_tree_index.specs.Attaching.{Never}
 use Rattle.bbm_tree_index.specs.LeastPages.{LeastOf}
 use Rattle.bbm_tree_index.specs.Outputs.{CoversAttached}
 use Rattle.bbm_replay_trees.specs.Guarding.{Guards}
-use Rattle.bbm_replay_trees.specs.TreeEvents.{earlier_rules}
 use Rattle.bbm_replay.specs.Guarded.{Becomes, CoversListed, CoversValue, Guarded, IsAttached, IsBad, IsOver, JudgesLeaf}
 use Rattle.bbm_replay.specs.Guarded.{Passes, Refuses}
 use Rattle.bbm_unmapped.specs.Unmapped.{free_in, may_map}
@@ -45,10 +43,10 @@ use Rattle.bbm_unmapped.specs.declared.unmapped.Unmapped.{Unmapped}
 use Rattle.bbm_replay.proofs.Guarding.{covers_nothing, guard_attached, guard_covered, if_kept, maps_none, never_over}
 use Rattle.bbm_replay.proofs.Guarding.{passes, refuses, word_of}
 use Rattle.bbm_replay.proofs.Framing.{meets_err, meets_ok, meets_broken}
-use Rattle.bbm_replay.proofs.Judging.{all_pass, found, kept_too, refused, write_is}
+use Rattle.bbm_replay.proofs.Judging.{all_pass, earlier_kept, found, refused, write_is}
 use Rattle.bbm_replay.proofs.Rooting.{attaches_of}
 use Rattle.bbm_replay.proofs.Writing.{after_attaching_write, after_plain_write, cores}
-use Rattle.bbm_replay.proofs.Entries.{none_of}
+use Rattle.bbm_lemmas.proofs.Words.{none_is}
 use Rattle.bbm_replay.proofs.Ways.{state_core}
 
 -- ---- what the core of a descriptor says
@@ -293,7 +291,7 @@ module _ (laws : (heading : Heading) → Laws heading) (rules : (heading : Headi
                     = sym (and-true (is_some new)) ∙ ap (λ (x : Option Unmapped). is_some new && is_some x) (sym is)
                     ∙ k in
                     let none : (page : ℕ) → maps n.kind n.level v page ≡ false
-                    = λ page. maps_none n.kind n.level v page (sym new_n ∙ none_of new invalid) in
+                    = λ page. maps_none n.kind n.level v page (sym new_n ∙ none_is new invalid) in
                     covered old.unmapped (if_kept old.unmapped (Never (IsOver n.kind n.level place v old.index))
                     (never_over n.kind n.level place v old.index none))
                     (covers_nothing n.kind n.level place v none old.unmapped)
@@ -343,7 +341,7 @@ module _ (laws : (heading : Heading) → Laws heading) (rules : (heading : Headi
             let node_is : node_of heading Patterns (notes heading h) (page_of place) ≡ Some n
             = sym (s.told.nodes (page_of place)) ∙ at.1 in
             let held_none : held_at heading Patterns (notes heading h) n place ≡ None
-            = none_of (held_at heading Patterns (notes heading h) n place)
+            = none_is (held_at heading Patterns (notes heading h) n place)
             ((laws heading).holds.holds h n.kind n.level place _ _ (s.told.entries n place at.1)
             ∙ ap (λ (x : Option Core). is_some x)
             (state_core n.kind n.level (value_at old.map place) (marks_at old.map place) ∙ (one_attached next one).0)) in
@@ -364,21 +362,13 @@ module _ (laws : (heading : Heading) → Laws heading) (rules : (heading : Headi
             tables_left =
                 let pass = all_pass (judging heading h s) fine in rw (left heading h s, pass.0, pass.1, pass.2) refl
 
-            earlier : first_broken heading Patterns (notes heading h) e (earlier_rules e) ≡ None
-            earlier =
-                let pass = all_pass (judging heading h s) fine in
-                kept_too NoLock (m.unlocked heading h s) (kept_too NullWritten (null_none heading h s)
-                (kept_too BreakBeforeMake (bbm_is heading h s ∙ ap (λ b. if_so b place) alike)
-                (kept_too LimboMake (limbo_is heading h s ∙ ap (λ b. if_so b place) above) (kept_too NotFresh pass.0
-                (kept_too RewrittenFresh (rewritten_none heading h s) (kept_too BadKind pass.1
-                (kept_too GlobalUser pass.2 refl)))))))
-
             judged : (u : Unmapped) (o : Option ℕ) → heading.words.isolated ≡ true
                 → Guards heading h (free_in u) (may_map u) → LeastOf (IsBad old.index old.map starts_here u) o
                 → table_mapped heading Patterns (notes heading h) e ≡ o
             judged u o word guards least =
                 (rules heading).tables.attaching h v_old n pe place v next (free_in u) (may_map u) o word
-                ((laws heading).proper s.told.proper) s.told.fit s.told.kept earlier s.told.nodes s.told.fresh
+                ((laws heading).proper s.told.proper) s.told.fit s.told.kept
+                (earlier_kept (rules heading) h e _ refl refl tables_left) s.told.nodes s.told.fresh
                 s.told.values (cores s.told) at.1 (one_attached next one).0 (one_attached next one).1 guards
                 (subst (λ (x : Option Node). LeastOf (IsBad old.index old.map (index_paths.below_all x place next) u) o)
                 at.1 least)

@@ -3,13 +3,18 @@
 use Rattle.bbm_replay.proofs.Common.{broken, Judging, Kind, kind_in_world, Rule, WrongWorld, NoLock, NullWritten}
 use Rattle.bbm_replay.proofs.Common.{BreakBeforeMake, LimboMake, NotFresh, RewrittenFresh, BadKind, GlobalUser}
 use Rattle.bbm_replay.proofs.Common.{PageInUse, TableMapped, TreeFault, View, notes, Rules, Told, step_fault}
-use Rattle.bbm_rules.proofs.Common.{◌≡◌, ℕ, ◌≤◌, Bool, false, not, ◌&&◌, ◌||◌, nat_le, List, Option, Some, None, Ok}
+use Rattle.bbm_rules.proofs.Common.{◌≡◌, ℕ, ◌≤◌, Bool, true, false, not, ◌&&◌, ◌||◌, nat_le, List, [], ◌∷◌, Option}
+use Rattle.bbm_rules.proofs.Common.{Some, None, Ok, sym, same_Some, and_parts, every}
 use Rattle.bbm_rules.proofs.Common.{Err, is_some, filter, refl, ◌∙◌, ap, option_map_or, le-leb, leb-true, Pages, Breach}
 use Rattle.bbm_rules.proofs.Common.{Patterns, limit_of, if_so, least, S2, Heading, Event, Init, Null, Root, Write}
 use Rattle.bbm_rules.proofs.Common.{root_pages, bad_kind, break_before_make, global_user, limbo_make, no_lock}
 use Rattle.bbm_rules.proofs.Common.{not_fresh, null_written, page_in_use, rewritten_fresh, Node, Answers, Which}
 use Rattle.bbm_rules.proofs.Common.{not-true, false_from_ne_true}
+use Rattle.bbm_rules.specs.Broken.{breaks, first_broken}
+use Rattle.bbm_rules.specs.Notes.{Noted}
 use Rattle.bbm_rules.specs.Rules.{table_mapped}
+use Rattle.bbm_replay_trees.specs.TreeEvents.{earlier_rules, last_rules}
+use Rattle.std.specs.Prelude.{◌++◌}
 use Rattle.bbm_lemmas.proofs.Bools.{and_apart}
 use Rattle.bbm_events.specs.Heading.{nulls_everywhere}
 use Rattle.bbm_tree_index.specs.Attaching.{Judges}
@@ -19,9 +24,37 @@ use Rattle.bbm_tree_index.specs.declared.fault.TreeFault.TheVariants as tree
 abbrev pub found : Rule → Option ℕ → Option Breach → Option Breach
 found rule o rest = option_map_or (λ at. Some (record { rule = rule; at = at })) o rest
 
--- rules that are kept, one by one
-pub kept_too : (rule : Rule) {o : Option ℕ} {rest : Option Breach} → o ≡ None → rest ≡ None → found rule o rest ≡ None
-kept_too rule {rest = rest} none others = ap (λ o. found rule o rest) none ∙ others
+abbrev is_on_tables : Rule → Bool
+is_on_tables TableMapped = true
+is_on_tables _ = false
+
+kept_step : (rule : Rule) (at other : Option ℕ) (all rest : Option Breach) → is_on_tables rule ≡ false
+    → (all ≡ found TableMapped other None → rest ≡ None) → found rule at all ≡ found TableMapped other None
+    → found rule at rest ≡ None
+kept_step rule None other all rest apart kept is = kept is
+kept_step rule (Some at) None all rest apart kept is = cc
+kept_step rule (Some at) (Some x) all rest apart kept is =
+    let same : rule ≡ TableMapped = ap (λ (b : Breach). b.rule) (same_Some _ _ is) in cc (ap is_on_tables same)
+
+kept_before : (heading : Heading) (h : List Noted) (e : Event) (before : List Rule) (o : Option ℕ)
+    → every (λ rule. not (is_on_tables rule)) before ≡ true
+    → first_broken heading Patterns h e (before ++ TableMapped ∷ []) ≡ found TableMapped o None
+    → first_broken heading Patterns h e before ≡ None
+kept_before heading h e [] o apart is = refl
+kept_before heading h e (rule ∷ rest) o apart is =
+    let both = and_parts (not (is_on_tables rule)) (every (λ r. not (is_on_tables r)) rest) apart in
+    kept_step rule (breaks heading Patterns h e rule) o (first_broken heading Patterns h e (rest ++ TableMapped ∷ []))
+    (first_broken heading Patterns h e rest) (not-true (is_on_tables rule) both.0)
+    (kept_before heading h e rest o both.1) is
+
+-- where no rule but the one on table pages is the first that is broken, those before it are kept
+pub earlier_kept : {heading : Heading} → Rules heading → (h : List Event) (e : Event) (o : Option ℕ)
+    → every (λ rule. not (is_on_tables rule)) (earlier_rules e) ≡ true → last_rules e ≡ TableMapped ∷ []
+    → broken heading Patterns h e ≡ found TableMapped o None
+    → first_broken heading Patterns (notes heading h) e (earlier_rules e) ≡ None
+earlier_kept {heading} rules h e o apart last is = kept_before heading (notes heading h) e (earlier_rules e) o apart
+    (sym (rules.by_kind Patterns h e
+    ∙ ap (λ (rs : List Rule). first_broken heading Patterns (notes heading h) e (earlier_rules e ++ rs)) last) ∙ is)
 
 module _ {heading : Heading} (rules : Rules heading) {h : List Event} {v : View} (t : Told heading h v) (pe page : ℕ) where
   pub init_is : broken heading Patterns h (Init pe page)

@@ -16,13 +16,11 @@ use Rattle.bbm_tree_index.specs.Attaching as index
 use Rattle.bbm_tree_index.specs.IndexChanges as changes
 use Rattle.bbm_tree_index.specs.declared.role.Attach.TheVariants as attach
 use Rattle.bbm_roots.specs.RootsStand as roots
-use Rattle.bbm_rules.specs.Broken.{first_broken}
 use Rattle.bbm_rules.specs.Rules.{table_mapped}
 use Rattle.bbm_tree_index.specs.Index.{pages_in}
 use Rattle.bbm_tree_index.specs.LeastPages.{LeastOf}
 use Rattle.bbm_tree_index.specs.Outputs.{CoversAttached}
 use Rattle.bbm_replay_trees.specs.Guarding.{Guards}
-use Rattle.bbm_replay_trees.specs.TreeEvents.{earlier_rules}
 use Rattle.bbm_replay.specs.Guarded.{Becomes, CoversListed, IsAttached, IsBad, Passes, Refuses}
 use Rattle.bbm_unmapped.specs.Unmapped.{free_in, may_map}
 use Rattle.bbm_tree_index.specs.declared.standing.AttachedPage.{AttachedPage}
@@ -33,7 +31,7 @@ use Rattle.bbm_replay.proofs.Moves.{Attaches, SameMap, SameTracked}
 use Rattle.bbm_replay.proofs.Cases.{either}
 use Rattle.bbm_replay.proofs.Framing.{meets_err, meets_ok, meets_broken}
 use Rattle.bbm_replay.proofs.Growing.{after_root}
-use Rattle.bbm_replay.proofs.Judging.{all_pass, found, kept_too, refused, root_is}
+use Rattle.bbm_replay.proofs.Judging.{all_pass, earlier_kept, found, refused, root_is}
 use Rattle.bbm_replay.proofs.Meeting.{stands_same, with_roots}
 
 -- the nodes of the pages of a root
@@ -110,24 +108,13 @@ module _ (laws : (heading : Heading) → Laws heading) (rules : (heading : Headi
         pages_of_root = starts (heading_of old.index) kind page
 
         module _ (heading : Heading) (h : List Event) (s : PartsStand old heading h) where
-          -- no rule before that on table pages is broken
-          earlier : first_broken heading Patterns (notes heading h) e (earlier_rules e) ≡ None
-          earlier =
-              let k : kind_in_world heading.world kind ≡ true = cc (right, s.header) in
-              let fresh : least (filter (λ p. not (fresh_in old.index p)) (root_pages heading.world kind page)) ≡ None
-              = cc (none, s.header) in
-              let pass = all_pass (judging heading h s) fine in
-              let world : if_so (not (kind_in_world heading.world kind)) 0 ≡ None = ap (λ b. if_so (not b) 0) k in
-              kept_too WrongWorld world (kept_too NotFresh pass.0 (kept_too BadKind pass.1 (kept_too GlobalUser pass.2
-              (kept_too PageInUse ((rules heading).on_pages.root h (view_of old.map old.index) pe page kind lock
-              s.told.fresh ∙ fresh) refl))))
-
           judged : (u : Unmapped) (o : Option ℕ) → heading.words.isolated ≡ true
               → Guards heading h (free_in u) (may_map u) → LeastOf (IsBad old.index old.map pages_of_root u) o
               → table_mapped heading Patterns (notes heading h) e ≡ o
           judged u o word guards least =
               (rules heading).tables.root h (view_of old.map old.index) pe page kind lock (free_in u) (may_map u) o word
-              ((laws heading).proper s.told.proper) s.told.fit s.told.kept earlier s.told.nodes s.told.fresh
+              ((laws heading).proper s.told.proper) s.told.fit s.told.kept
+              (earlier_kept (rules heading) h e _ refl refl (passed heading h s None none)) s.told.nodes s.told.fresh
               s.told.values guards
               (subst (λ (x : Heading). LeastOf (IsBad old.index old.map (starts x kind page) u) o) s.index_header least)
 

@@ -1,7 +1,7 @@
 -- Going down a tree along an input page.
 use Rattle.bbm_replay.proofs.Common.{option_map, core_in, Marks, state_from, PlaceMap, IsWay, Translates, core_at}
 use Rattle.bbm_replay.proofs.Common.{core_with, is_at, next_in, is_sound, path_at, TreeIndex, Path, IsOnWay}
-use Rattle.bbm_rules.proofs.Common.{◌≡◌, ℕ, suc, ◌+◌, ◌*◌, ◌^◌, ◌%◌, ◌<◌, ◌≤◌, ◌==◌, true, List, [], ◌∷◌, Option, Some}
+use Rattle.bbm_rules.proofs.Common.{◌≡◌, ℕ, suc, ◌+◌, ◌*◌, ◌^◌, ◌<◌, ◌≤◌, true, List, [], ◌∷◌, Option, Some}
 use Rattle.bbm_rules.proofs.Common.{None, ◌⊎◌, inl, inr, refl, sym, ap, ◌∙◌, subst, arith, and_parts, eqb-true, core_of}
 use Rattle.bbm_rules.proofs.Common.{Core, Kind, page_of, input_pages, Node, node_below, region_start}
 use Rattle.bbm_tree_index.specs.Descent.{MayHang}
@@ -48,9 +48,6 @@ module _ (node : ℕ → Option Node) (core : Kind → ℕ → ℕ → Option Co
       let same : x ≡ w.3 = cc in
       below way a (subst (λ y. IsWay node core at y way a) (sym same) w.5)
 
-pub own_page : (page a : ℕ) → is_at page a ≡ true → page_of a ≡ page
-own_page page a inside = eqb-true (page_of a) page (and_parts (page_of a == page) (a % 8 == 0) inside).0
-
 -- the place of a page that translates an input page is on the way
 pub on_way : (node : ℕ → Option Node) (at page : ℕ) (n : Node) → node page ≡ Some n → (met : Option (ℕ × Path))
     (m : ℕ × Path) → met ≡ Some m → is_at page m.0 ≡ true → m.1 ≡ path_at n m.0
@@ -65,7 +62,7 @@ on_way node at page n is met m some inside path meets = record {
 }
   where
     own : page_of m.0 ≡ page
-    own = own_page page m.0 inside
+    own = eqb-true (page_of m.0) page (and_parts _ _ inside).0
 
 -- a place is met on the way down from the place at which one is, if one is at any
 abbrev pub IsAhead : (ℕ → Option Node) → (Kind → ℕ → ℕ → Option Core) → ℕ → Option (ℕ × Path) → ℕ → Type 0
@@ -80,7 +77,8 @@ pub ahead : (node : ℕ → Option Node) (core : Kind → ℕ → ℕ → Option
 ahead node core at page None inside meets way a w =
     absurd (no_way node core at page (λ n b is t. let bad : None ≡ Some b = meets n b is t in cc) way a w)
 ahead node core at page (Some m) inside meets way a w =
-    (m, refl, way, subst (λ p. IsWay node core at p way a) (sym (own_page page m.0 (inside m refl))) w)
+    let own = eqb-true (page_of m.0) page (and_parts _ _ (inside m refl)).0 in
+    (m, refl, way, subst (λ p. IsWay node core at p way a) (sym own) w)
 
 -- below a place on the way, which holds a table
 module _ (map : PlaceMap) (index : TreeIndex) (fits : FitTogether map index) (at place : ℕ)

@@ -17,9 +17,9 @@ use crate::laws::laws;
 use bbm_descriptor::core;
 use bbm_events::Header;
 use bbm_place_map::{PlaceMap, Position};
-use bbm_regimes::{Kind, Level, Page};
+use bbm_regimes::Page;
 use bbm_rules::{Rule, StepFault};
-use bbm_tree_index::{AttachedPage, Prepared, TreeIndex};
+use bbm_tree_index::{AttachedPage, Prepared, Standing, TreeIndex};
 use bbm_unmapped::laws::law_core_maps;
 use bbm_unmapped::{Unmapped, outputs_of};
 use std::alloc::Global;
@@ -64,30 +64,29 @@ pub(crate) fn init(kept: &mut Option<Unmapped>, index: &TreeIndex, map: &PlaceMa
     }
 }
 
-/// Judges by the rule on table pages a value that is written at the position's place, which is of a tree, at this kind
-/// and level: `Broken` with the least page of a tree that it maps as a leaf of stage 2. After Ok what it maps counts as
-/// mapped.
+/// Judges by the rule on table pages a value that is written at the position's place, which is read like this in a tree:
+/// `Broken` with the least page of a tree that it maps as a leaf of stage 2. After Ok what it maps counts as mapped.
 #[inline(never)]
 pub(crate) fn cover_leaf(
     kept: &mut Option<Unmapped>,
     index: &TreeIndex,
     map: &PlaceMap,
     position: Position,
-    kind: Kind,
-    level: Level,
+    read: Standing,
     value: u64,
 ) -> Result<(), StepFault>
     requires shares { SharesNumbers index.now map.now }
     requires pages { IfSome kept.old (λ u. SharesPages u index.now) }
     requires tables { IfSome kept.old (λ u. (p : ℕ) → is_some (tree.node_in index.now p) ≡ true → free_in u p ≡ true) }
     requires position { IsPosition map.now position }
-    ensures { JudgesLeaf kind level position.place value index.now kept.old kept.new result }
+    ensures { JudgesLeaf read.kind read.level position.place value index.now kept.old kept.new result }
 {
     law_core_maps();
     let Some(unmapped) = kept else {
         return Ok(());
     };
-    let Some(outputs) = outputs_of(kind, level, &core(kind, level, value)) else {
+    let Some(outputs) = outputs_of(read.kind, read.level, &core(read.kind, read.level, value))
+    else {
         return Ok(());
     };
     match unmapped.put_leaf(index, map, position.page, position.place.page(), &outputs) {

@@ -25,7 +25,7 @@ use bbm_place_map::{PlaceMap, Position};
 use bbm_regimes::{Kind, Page, Pe, Place};
 use bbm_roots::law_others;
 use bbm_rules::{Rule, StepFault};
-use bbm_tree_index::{Attach, Path, next_of};
+use bbm_tree_index::{Attach, Path, Standing, next_of};
 use std::alloc::Global;
 
 /// To look through so many broken places takes less than to go up a tree. Source: project's own choice.
@@ -280,13 +280,16 @@ impl ReplayState {
             return Err(StepFault::Broken(Rule::GlobalUser, place.get()));
         }
         if new.is_some() && self.unmapped.is_some() {
+            let read = Standing {
+                kind: write.path.kind,
+                level: write.path.level,
+            };
             return cover_leaf(
                 &mut self.unmapped,
                 &self.index,
                 &self.map,
                 *write.position,
-                write.path.kind,
-                write.path.level,
+                read,
                 write.value,
             );
         }

@@ -16,8 +16,8 @@ use Rattle.bbm_replay.proofs.guard.cover_leaf.Goals as goal
 
 pub returns-in_default-outputs_of : goal.returns-in_default-outputs_of
 returns-in_default-outputs_of c =
-    let kind = c.args.kind in
-    let level = c.args.level in
+    let kind = c.args.read.kind in
+    let level = c.args.read.level in
     let place = c.args.position.place in
     let value = c.args.value in
     let none : (page : ℕ) → maps kind level value page ≡ false
@@ -45,8 +45,8 @@ put_leaf-requires c =
 
 pub returns-in-None : goal.returns-in-None
 returns-in-None c =
-    let kind = c.args.kind in
-    let level = c.args.level in
+    let kind = c.args.read.kind in
+    let level = c.args.read.level in
     let place = c.args.position.place in
     let value = c.args.value in
     let outputs = c.in-Some-outputs_of.outputs in

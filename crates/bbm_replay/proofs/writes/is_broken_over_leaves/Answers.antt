@@ -1,7 +1,7 @@
 use Rattle.bbm_replay.proofs.Common.{below_more, marks_at, restless_place, Marks, PlaceMap, next_in}
 use Rattle.bbm_rules.proofs.Common.{◌≡◌, ℕ, ◌<◌, ◌≤◌, None, Some, is_some, sym, ap, ◌∙◌, subst, arith}
 use Rattle.bbm_rules.proofs.Common.{same_Some, Core}
-use Rattle.bbm_replay.proofs.Entries.{none_of}
+use Rattle.bbm_lemmas.proofs.Words.{none_is}
 use Rattle.bbm_replay.proofs.writes.is_broken_over_leaves.Goals as goal
 
 -- a place that is broken over one core isn't broken over another
@@ -17,7 +17,7 @@ loop-i-preserved c = below_more (λ (x : ℕ). (marks : Marks)
     → marks_at c.args.map.now (restless_place c.args.map.now x) ≡ Some marks → next_in (Some marks.core) ≡ None)
     c.loop-i.i c.loop-i.invariant
     (one_core c.args.map.now (restless_place c.args.map.now c.loop-i.i) c.restless_core.result c.restless_core.ensures
-    (sym c.next_of.ensures ∙ none_of c.next_of.result (sym c.is_some.ensures ∙ c.if-is_some.false)))
+    (sym c.next_of.ensures ∙ none_is c.next_of.result (sym c.is_some.ensures ∙ c.if-is_some.false)))
 
 pub returns : goal.returns
 returns c = λ yes a marks at.

@@ -2,7 +2,7 @@ use Rattle.bbm_replay.proofs.Common.{node_in, marks_at, restless_place, value_at
 use Rattle.bbm_replay.proofs.Common.{waiting, ReplayState}
 use Rattle.bbm_rules.proofs.Common.{◌≡◌, ℕ, Option, is_some, sym, ◌∙◌, ap, core_of, Patterns, is_restless, page_of}
 use Rattle.bbm_replay.proofs.Cases.{some_or}
-use Rattle.bbm_replay.proofs.DsbMoves.{broken_marks}
+use Rattle.bbm_replay.proofs.Entries.{broken_marks}
 use Rattle.bbm_replay.proofs.parts.ReplayState.restless.Goals as goal
 
 pub returns : goal.returns

@@ -1,6 +1,6 @@
 use Rattle.bbm_replay.proofs.Common.{marks_at, value_at, MayAdmit}
 use Rattle.bbm_rules.proofs.Common.{◌≡◌, None, Some, sym, ◌∙◌, core_of}
-use Rattle.bbm_replay.proofs.Entries.{none_of}
+use Rattle.bbm_lemmas.proofs.Words.{none_is}
 use Rattle.bbm_replay.proofs.Inside.{admitted_invalid, locked, taken, unlocked}
 use Rattle.bbm_replay.proofs.Unbroken.{breaks_unbroken, may_admit_unbroken}
 use Rattle.bbm_replay.proofs.parts.ReplayState.write_inside.Goals as goal
@@ -26,7 +26,7 @@ returns-else-is_some c =
     let live = c.in-Some-live_at.live in
     let new = c.core-new.result in
     let unbroken : marks_at self.map place ≡ None = c.requires.unbroken in
-    let invalid : new ≡ None = none_of new (sym c.is_some.ensures ∙ c.if-is_some.false) in
+    let invalid : new ≡ None = none_is new (sym c.is_some.ensures ∙ c.if-is_some.false) in
     let live_is : Some live ≡ core_of w.path.now.kind w.path.now.level (value_at self.map place)
     = sym c.in-Some-live_at.is ∙ c.live_at.ensures in
     let m : MayAdmit self w.pe place w.value w.path.now (Some live) new = may_admit_unbroken c.requires.at

@@ -1,6 +1,7 @@
 use Rattle.bbm_unmapped.proofs.Common.{free_in, pages_in}
 use Rattle.bbm_unmapped.proofs.unmapped.Unmapped.take_page.Goals as goal
-use Rattle.bbm_rules.proofs.Common.{◌∙◌, ◌<◌, ℕ, List, Option, ap, is_some, length, slice_get_within, subst, sym, true≢false}
+use Rattle.bbm_rules.proofs.Common.{◌∙◌, ◌<◌, ℕ, List, Option, ap, is_some, length, slice_get_within, subst, sym}
+use Rattle.bbm_rules.proofs.Common.{true≢false}
 use Rattle.bbm_unmapped.proofs.Known.{off_stays}
 use Rattle.bbm_unmapped.proofs.Tables.{no_table, one_table, standing_is}
 
