@@ -4,7 +4,7 @@ use Rattle.bbm_session.proofs.Common.{CertifiedReadFor, Reader, IsStart, IsInsid
 use Rattle.bbm_session.proofs.Common.{ReadAs, MayTakeLine, FoldsLine}
 use Rattle.bbm_rules.proofs.Common.{◌≡◌, ℕ, suc, ◌<◌, Bool, true, false, if◌then◌else◌, List, [], ◌∷◌, length, reverse}
 use Rattle.bbm_rules.proofs.Common.{Option, Some, None, refl, ap, sym, ◌∙◌, arith, subst, nat_le, Result, Ok, Err, ◌==◌}
-use Rattle.bbm_rules.proofs.Common.{◌⊎◌, inl, inr, contains_none, Claim, Item, heading_ok, Text, Turned, Halts, Passes}
+use Rattle.bbm_rules.proofs.Common.{contains_none, Claim, Item, heading_ok, Text, Turned, Halts, Passes}
 use Rattle.bbm_rules.proofs.Common.{is_too_long, text_of}
 use Rattle.bbm_events.specs.declared.certificate.ClaimItem.{ClaimItem}
 use Rattle.bbm_events.specs.declared.certificate.ClaimItem.TheVariants as claim_item
@@ -210,33 +210,19 @@ names_claim n heading h claims (Ok (claim_item.End count)) =
     named_if named_said n (count == length claims) _ _ tt refl
 names_claim n heading h claims (Err cause) = refl
 
-names_line : (n : ℕ) (p : Reached) (line : List ℕ) → Names n (after_line n p line)
-names_line n AtHeader line =
-    named_header named_said n (λ heading. AtEvents heading []) Stopped (header_of line) (λ cause. refl)
-names_line n (AtEvents heading h) line = names_item n heading h (item_of heading line)
-names_line n (BehindLog heading h) line = names_first n heading h (certificate_of line)
-names_line n (AtClaims heading h claims) line = names_claim n heading h claims (claim_of heading line)
-names_line n (AtEnd heading h claims) line = refl
-
-names_long : (n : ℕ) (p : Reached) → named_line (too_long_at n p) ≡ Some n
-names_long n AtHeader = refl
-names_long n (AtEvents heading h) = refl
-names_long n (BehindLog heading h) = refl
-names_long n (AtClaims heading h claims) = refl
-names_long n (AtEnd heading h claims) = refl
-
-names_cut : (n : ℕ) (p : Reached) (rest : List ℕ)
-    → (named_said (cut_at n p rest) ≡ Some n) ⊎ (named_said (cut_at n p rest) ≡ None)
-names_cut n AtHeader rest = inl refl
-names_cut n (AtEvents heading h) rest = inl refl
-names_cut n (BehindLog heading h) rest = inl refl
-names_cut n (AtClaims heading h claims) rest = inl refl
-names_cut n (AtEnd heading h claims) [] = inr refl
-names_cut n (AtEnd heading h claims) (b ∷ rest) = inl refl
-
 certifying-named : Named certifying named_said
 unfolding certifying
-certifying-named = record { line = names_line; long = names_long; cut = names_cut }
+certifying-named = record {
+  line = λ n p line. elim p as (λ q. Names n (after_line n q line)) [
+    | AtHeader ↦ named_header named_said n (λ heading. AtEvents heading []) Stopped (header_of line) (λ cause. refl)
+    | AtEvents heading h ↦ names_item n heading h (item_of heading line)
+    | BehindLog heading h ↦ names_first n heading h (certificate_of line)
+    | AtClaims heading h claims ↦ names_claim n heading h claims (claim_of heading line)
+    | AtEnd heading h claims ↦ refl
+  ];
+  long = λ n p. grind arith;
+  cut = λ n p rest. grind arith;
+}
 
 certified_read_for : (says : CertificateSays) (read : Text) (unread : List ℕ) → ByName 1 (named_said says) read unread
     → CertifiedReadFor says read unread
@@ -281,7 +267,7 @@ unfolding end_by certifying
 end-none n p rest = by (is_too_long rest)
   where
     by : (b : Bool) → NotAccepted (if b then Stopped (too_long_at n p) else cut_at n p rest)
-    by true = named-none n (Stopped (too_long_at n p)) (names_long n p)
+    by true = named-none n (Stopped (too_long_at n p)) (certifying-named.long n p)
     by false = cut-none n p rest
 
 pub not-accepted : (bytes : List ℕ) → NotAccepted (read_of bytes).says

@@ -1,8 +1,8 @@
 -- The reader that keeps the steps of a run: its parts, its lines, and which bytes are read for what is said.
 use Rattle.bbm_session.proofs.Common.{Heading, Step, Stop, Turn, Reader, IsStart, IsInside, IsEnd, Follows, run_reader}
 use Rattle.bbm_session.proofs.Common.{ReadAs, RunReadFor, MayTakeLine, FoldsLine}
-use Rattle.bbm_rules.proofs.Common.{◌≡◌, ℕ, ◌<◌, ◌≤◌, ◌+◌, List, [], ◌∷◌, length, reverse, Option, Some, None, refl, ap}
-use Rattle.bbm_rules.proofs.Common.{sym, ◌∙◌, arith, subst, nat_le, Result, Ok, Err, ◌==◌, ◌⊎◌, inl, inr}
+use Rattle.bbm_rules.proofs.Common.{◌≡◌, ℕ, ◌<◌, ◌≤◌, ◌+◌, List, [], length, reverse, Option, Some, None, refl, ap}
+use Rattle.bbm_rules.proofs.Common.{sym, ◌∙◌, arith, subst, nat_le, Result, Ok, Err, ◌==◌}
 use Rattle.bbm_rules.proofs.Common.{length-reverse, Item, MachineLine, Text, Turned, text_of}
 use Rattle.bbm_events.specs.declared.event.Item.TheVariants as item
 use Rattle.bbm_events.specs.declared.malformed.Malformed.{Malformed as Cause}
@@ -12,7 +12,7 @@ use Rattle.bbm_log_grammar.specs.declared.turn.LineFault.{LineFault}
 use Rattle.bbm_log_grammar.specs.declared.turn.LineFault.TheVariants as fault
 use Rattle.bbm_log_grammar.specs.declared.turn.Turn.TheVariants as turn
 use Rattle.bbm_follow.specs.Following.{Reached, AtHeader, AtSteps, AtEnd, after_step, after_item, after_machine}
-use Rattle.bbm_follow.specs.Following.{is_machine, after_line, too_long_at, RunSays, Stopped, Whole, cut_at, following}
+use Rattle.bbm_follow.specs.Following.{is_machine, after_line, RunSays, Stopped, Whole, following}
 use Rattle.bbm_follow.specs.Following.{run_of, step_limit, event_count}
 use Rattle.bbm_follow.specs.Following as run
 use Rattle.bbm_session.specs.Readers.{Turns}
@@ -106,28 +106,18 @@ names_machine : (n : ℕ) (heading : Heading) (steps : List Step) (r : Result Ma
 names_machine n heading steps (Ok line) = names_step n heading steps _
 names_machine n heading steps (Err cause) = refl
 
-names_line : (n : ℕ) (p : Reached) (line : List ℕ) → Names n (after_line n p line)
-names_line n AtHeader line =
-    named_header named_run n (λ heading. AtSteps heading []) Stopped (header_of line) (λ cause. refl)
-names_line n (AtSteps heading steps) line = named_if named_run n (is_machine line) _ _
-    (names_machine n heading steps (machine_of heading line)) (names_item n heading steps (item_of heading line))
-names_line n (AtEnd heading steps) line = refl
-
-names_long : (n : ℕ) (p : Reached) → named_line (too_long_at n p) ≡ Some n
-names_long n AtHeader = refl
-names_long n (AtSteps heading steps) = refl
-names_long n (AtEnd heading steps) = refl
-
-names_cut : (n : ℕ) (p : Reached) (rest : List ℕ)
-    → (named_run (cut_at n p rest) ≡ Some n) ⊎ (named_run (cut_at n p rest) ≡ None)
-names_cut n AtHeader rest = inl refl
-names_cut n (AtSteps heading steps) rest = inl refl
-names_cut n (AtEnd heading steps) [] = inr refl
-names_cut n (AtEnd heading steps) (b ∷ rest) = inl refl
-
 following-named : Named following named_run
 unfolding following
-following-named = record { line = names_line; long = names_long; cut = names_cut }
+following-named = record {
+  line = λ n p line. elim p as (λ q. Names n (after_line n q line)) [
+    | AtHeader ↦ named_header named_run n (λ heading. AtSteps heading []) Stopped (header_of line) (λ cause. refl)
+    | AtSteps heading steps ↦ named_if named_run n (is_machine line) _ _
+        (names_machine n heading steps (machine_of heading line)) (names_item n heading steps (item_of heading line))
+    | AtEnd heading steps ↦ refl
+  ];
+  long = λ n p. grind arith;
+  cut = λ n p rest. grind arith;
+}
 
 run_read_for : (says : RunSays) (read : Text) (unread : List ℕ) → ByName 1 (named_run says) read unread
     → RunReadFor says read unread

@@ -5,7 +5,7 @@ use Rattle.bbm_session.proofs.Common.{Limit, heading_in, Decision, Stop, Decided
 use Rattle.bbm_session.proofs.Common.{Reader, alone, IsStart, IsInside, IsEnd, plain_lines, Breaks, Starves, Shrinks}
 use Rattle.bbm_session.proofs.Common.{Concludes, Stops, IsBrief, KnowsWhy, RefusedOn, ReadsHeader, HeaderLine, Starts}
 use Rattle.bbm_session.proofs.Common.{FoldsLine, Going, Ends, KnowsThat, Heads}
-use Rattle.bbm_rules.proofs.Common.{◌≡◌, ◌≢◌, ℕ, suc, ◌<◌, ◌≤◌, ◌+◌, true, false, nat_eq, List, [], ◌++◌, length, drop}
+use Rattle.bbm_rules.proofs.Common.{◌≡◌, ℕ, suc, ◌<◌, ◌≤◌, ◌+◌, true, false, nat_eq, List, [], ◌++◌, length, drop}
 use Rattle.bbm_rules.proofs.Common.{Option, Some, None, refl, ap, sym, ◌∙◌, arith, append_assoc, append-nil}
 use Rattle.bbm_rules.proofs.Common.{length-append, add-one, subst, ◌∷◌, Result, Ok, Err, result_ok, and_parts}
 use Rattle.bbm_rules.proofs.Common.{nat_tests, text_of, bytes_of, is_too_long, Fold, Turned, Halts, Passes, Ending}
@@ -26,7 +26,7 @@ use Rattle.bbm_session.specs.Reader.{told}
 use Rattle.bbm_session.specs.Pieces.{Takes}
 use Rattle.bbm_session.specs.Stages.{Passed, Continues, Advances, Reaches, Closes}
 use Rattle.bbm_texts.specs.Known.{EndsThere}
-use Rattle.bbm_session.proofs.Texts.{plain-head, text_of-line, text_of-plain, text_of-prefix, bytes_of-text_of}
+use Rattle.bbm_session.proofs.Texts.{text_of-line, text_of-plain, text_of-prefix, bytes_of-text_of}
 use Rattle.bbm_session.proofs.Texts.{prefixed}
 
 short : (line : List ℕ) → length line ≤ 200 → is_too_long line ≡ false
