@@ -10,3 +10,5 @@ mod io;
 mod walk_s1;
 #[cfg(test)]
 mod walk_s2;
+#[cfg(test)]
+mod walked;

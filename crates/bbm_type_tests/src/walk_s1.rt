@@ -4,24 +4,15 @@ ghost use Rattle.std.specs.Prelude.{◌≡◌, ◌<◌, ◌≤◌, ◌%◌, ◌^
 ghost use Rattle.bbm_descriptor.specs.Listing.{NoLeaf};
 ghost use Rattle.bbm_walk_s1.specs.InputRanges.{stage1_root};
 
-use bbm_regimes::{Level, Page, Place};
+use crate::walked::{Row, place, told};
+use bbm_regimes::{Level, Page};
 use bbm_walk_s1::{Memory, Pairs, S1Root, Walk, walk};
 
 /// Whether a leaf translates the address.
 fn is_mapped<M: Memory>(mem: &M, root: S1Root, va: u64) -> bool
     ensures { IsTrue result ↔ ¬ NoLeaf (M.value_at mem.now) (stage1_root root.start root.high root.page) va }
 {
-    match walk(mem, root, va) {
-        Walk::Out { .. } => true,
-        Walk::Fault { .. } => false,
-    }
-}
-
-fn place(addr: u64) -> Place
-    requires below { addr < 2 ^ 48 }
-    requires aligned { addr % 8 ≡ 0 }
-{
-    Place::new(addr).unwrap()
+    matches!(walk(mem, root, va), Walk::Out { .. })
 }
 
 fn root(start: u8, high: bool, addr: u64) -> S1Root
@@ -35,17 +26,6 @@ fn root(start: u8, high: bool, addr: u64) -> S1Root
         page: Page::new(addr).unwrap(),
     }
 }
-
-/// The output address and the level of a leaf, or 1 and the level of a fault: no address here is 1.
-fn told(answer: Walk) -> (u64, u8) {
-    match answer {
-        Walk::Out { addr, level } => (addr, level.get()),
-        Walk::Fault { level } => (1, level.get()),
-    }
-}
-
-/// An address, and what a walk tells.
-type Row = (u64, u64, u8);
 
 /// Whether a walk tells what each row says.
 fn tells(mem: &Pairs, root: &S1Root, rows: &[Row]) -> bool {

@@ -4,24 +4,15 @@ ghost use Rattle.std.specs.Prelude.{◌≡◌, ◌*◌, ◌<◌, ◌≤◌, ◌%
 ghost use Rattle.bbm_descriptor.specs.Listing.{NoLeaf};
 ghost use Rattle.bbm_walk_s2.specs.Joined.{can_join, stage2_root};
 
-use bbm_regimes::{Level, Page, Place};
+use crate::walked::{Row, place, told};
+use bbm_regimes::{Level, Page};
 use bbm_walk_s2::{Memory, Pairs, S2Root, Walk, walk};
 
 /// Whether a leaf translates the address.
 fn is_mapped<M: Memory>(mem: &M, root: S2Root, ipa: u64) -> bool
     ensures { IsTrue result ↔ ¬ NoLeaf (M.value_at mem.now) (stage2_root root.start root.pages root.page) ipa }
 {
-    match walk(mem, root, ipa) {
-        Walk::Out { .. } => true,
-        Walk::Fault { .. } => false,
-    }
-}
-
-fn place(addr: u64) -> Place
-    requires below { addr < 2 ^ 48 }
-    requires aligned { addr % 8 ≡ 0 }
-{
-    Place::new(addr).unwrap()
+    matches!(walk(mem, root, ipa), Walk::Out { .. })
 }
 
 fn root(start: u8, pages: u8, addr: u64) -> S2Root
@@ -37,17 +28,6 @@ fn root(start: u8, pages: u8, addr: u64) -> S2Root
         page: Page::new(addr).unwrap(),
     }
 }
-
-/// The output address and the level of a leaf, or 1 and the level of a fault: no address here is 1.
-fn told(answer: Walk) -> (u64, u8) {
-    match answer {
-        Walk::Out { addr, level } => (addr, level.get()),
-        Walk::Fault { level } => (1, level.get()),
-    }
-}
-
-/// An address, and what a walk tells.
-type Row = (u64, u64, u8);
 
 /// Whether a walk tells what each row says.
 fn tells(mem: &Pairs, root: &S2Root, rows: &[Row]) -> bool {
