@@ -61,15 +61,15 @@ fn last_node(slots: &[u32], prefix: u64) -> u32
 
 /// `last_node`; the digits of the node that is known aren't followed again.
 #[inline(always)]
-pub fn node_of(slots: &[u32], recent: &LastNode, prefix: u64) -> u32
+pub fn node_of(slots: &[u32], last: &LastNode, prefix: u64) -> u32
     requires tree { IsTree slots.now }
     requires some { 0 < length slots.now }
-    requires recent { recent.now.node ≡ reached slots.now 4 recent.now.prefix }
+    requires last { last.now.node ≡ reached slots.now 4 last.now.prefix }
     requires fits { Fits 4 prefix }
     ensures { result ≡ reached slots.now 4 prefix }
 {
-    if prefix == recent.prefix {
-        return recent.node;
+    if prefix == last.prefix {
+        return last.node;
     }
     last_node(slots, prefix)
 }
@@ -77,16 +77,16 @@ pub fn node_of(slots: &[u32], recent: &LastNode, prefix: u64) -> u32
 /// What the six digits of a page's number lead to; 0 where the number isn't there. The digits of the node that is known
 /// aren't followed again.
 #[inline(always)]
-pub fn find(slots: &[u32], recent: &LastNode, number: u64) -> u32
+pub fn find(slots: &[u32], last: &LastNode, number: u64) -> u32
     requires tree { IsTree slots.now }
-    requires recent { recent.now.node ≡ reached slots.now 4 recent.now.prefix }
+    requires last { last.now.node ≡ reached slots.now 4 last.now.prefix }
     requires fits { Fits 5 number }
     ensures { result ≡ reached slots.now 5 number }
 {
     if slots.is_empty() {
         return 0;
     }
-    step(slots, node_of(slots, recent, number / BASE), number)
+    step(slots, node_of(slots, last, number / BASE), number)
 }
 
 /// Adds slots that are empty, so many, where there is room for them.
