@@ -5,7 +5,7 @@ use Rattle.std.specs.Prelude.{List, length, slice_get, if◌then◌else◌}
 use Rattle.bbm_entry_state.specs.declared.marks.Marks.{Marks}
 use Rattle.bbm_place_map.specs.Dsbs.{KeepsSeats}
 use Rattle.bbm_place_map.specs.Each.{Advances, Does, loses_table}
-use Rattle.bbm_place_map.specs.Entries.{entry_of, marks_of, number_by, pends_in, pends_of, position}
+use Rattle.bbm_place_map.specs.Entries.{ChangesAt, entry_of, marks_of, number_by, pends_in, pends_of}
 use Rattle.bbm_place_map.specs.Puts.{AreSeated, WasSeated}
 use Rattle.bbm_place_map.specs.Sound.{Numbered, Placed, at_index, index_of}
 use Rattle.bbm_place_map.specs.declared.entry.Entry.{Entry}
@@ -58,8 +58,7 @@ pub record SameSeats (old new : BrokenMap) : Type 0 where
 -- One entry changes in its place, as the relation says.
 pub record ChangesOne (k : ℕ) (R : Entry → Entry → Type 0) (old new : BrokenMap) : Type 0 where
   pub same : SameSeats old new
-  pub entry : (e : Entry) → slice_get old.entries k ≡ Some e → (f : Entry) × (position f ≡ position e) × R e f
-      × ((i : ℕ) → slice_get new.entries i ≡ (if nat_eq i k then Some f else slice_get old.entries i))
+  pub entry : ChangesAt k R old.entries new.entries
 
 -- Each entry does.
 pub record EachAdvances (R : ℕ → Entry → Entry → Type 0) (old new : BrokenMap) : Type 0 where

@@ -70,6 +70,11 @@ position e = (e.place, e.index, e.cell)
 abbrev pub position_at : List Entry → ℕ → Option (ℕ × ℕ × ℕ)
 position_at entries k = option_map position (slice_get entries k)
 
+-- the entry with a number changes in its place, as the relation says, and no other does
+abbrev pub ChangesAt : ℕ → (Entry → Entry → Type 0) → List Entry → List Entry → Type 0
+ChangesAt k R old new = (e : Entry) → slice_get old k ≡ Some e → (f : Entry) × (position f ≡ position e) × R e f
+    × ((i : ℕ) → slice_get new i ≡ (if nat_eq i k then Some f else slice_get old i))
+
 -- the PEs wait too that a TLBI reaches and for which it counts, as far as it covers a place with these marks
 abbrev pub Adds : Marks → PeMask → Cover → Pend → Pend → Type 0
 Adds marks reach cover old new = (c : Cover) (p : ℕ)

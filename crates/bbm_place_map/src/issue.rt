@@ -7,10 +7,10 @@ ghost use Rattle.bbm_entry_state.specs.EntryCalls.{Noted};
 ghost use Rattle.bbm_entry_state.specs.declared.state.EntryState.TheVariants as state;
 ghost use Rattle.bbm_tlbi_scope.specs.declared.entry.Cover.{Cover as TheCover};
 ghost use Rattle.bbm_place_map.specs.Each.{Advances};
-ghost use Rattle.bbm_place_map.specs.Entries.{position, lane_of, pends_in, HasRoom};
+ghost use Rattle.bbm_place_map.specs.Entries.{ChangesAt, lane_of, pends_in, HasRoom};
 ghost use Rattle.bbm_place_map.specs.Finds.{is_found};
 ghost use Rattle.bbm_place_map.specs.Sound.{SameSize, bases};
-ghost use Rattle.bbm_place_map.specs.PlaceNotes.{AtPlace, IsNoted, Keeps, NotesAs, NotesAt, NotesFound};
+ghost use Rattle.bbm_place_map.specs.PlaceNotes.{AtPlace, IsNoted, Keeps, KeepsOthers, NotesAs, NotesAt, NotesFound};
 ghost use Rattle.bbm_place_map.specs.PlaceNotes.{OnlyNotes, Readies, is_cover as spec_is_cover};
 ghost use Rattle.bbm_place_map.specs.ByNumber.{EachAdvances, IsKept, entry_number};
 ghost use Rattle.bbm_place_map.specs.Works.{IsQuiet, Waits};
@@ -58,9 +58,8 @@ fn is_cover(cover: Cover) -> bool
 #[inline(always)]
 pub fn make_room_at(entries: &mut Entries, k: usize, lane: Lane) -> Result<(), NoMemory>
     requires { k < vec_len entries.old.list }
-    ensures entry { (e : TheEntry) → slice_get entries.old.list.items k ≡ Some e → (f : TheEntry) × (position f ≡ position e)
-        × Keeps e f × OnOk result (HasRoom f.pends lane)
-        × ((i : ℕ) → slice_get entries.new.list.items i ≡ (if nat_eq i k then Some f else slice_get entries.old.list.items i)) }
+    ensures entry { ChangesAt k (λ e f. Keeps e f × OnOk result (HasRoom f.pends lane))
+        entries.old.list.items entries.new.list.items }
     ensures cells { entries.new.cells ≡ entries.old.cells }
     ensures size { SameSize entries.old.list entries.new.list }
 {
@@ -75,13 +74,12 @@ fn note_at(entries: &mut Entries, k: usize, tlbi: &Issuing, cover: Cover) -> boo
     requires within { k < vec_len entries.old.list }
     requires ready { (e : TheEntry) → slice_get entries.old.list.items k ≡ Some e
         → HasRoom e.pends (lane_of tlbi.now.issuer tlbi.now.broadcast) }
-    ensures entry { (e : TheEntry) → slice_get entries.old.list.items k ≡ Some e → (f : TheEntry) × (position f ≡ position e)
-        × (f.marks ≡ e.marks) × ((q : ℕ) → q ≢ tlbi.now.issuer → pends_in f.pends.items q ≡ pends_in e.pends.items q)
+    ensures entry { ChangesAt k (λ e f. KeepsOthers tlbi.now.issuer e f
         × Noted (state.Broken e.marks) (pends_in e.pends.items tlbi.now.issuer) tlbi.now.reach tlbi.now.broadcast cover
         (pends_in f.pends.items tlbi.now.issuer)
         × (result ≡ false → (wide : Bool) → IsQuiet wide (pends_in e.pends.items tlbi.now.issuer)
-        → IsQuiet wide (pends_in f.pends.items tlbi.now.issuer))
-        × ((i : ℕ) → slice_get entries.new.list.items i ≡ (if nat_eq i k then Some f else slice_get entries.old.list.items i)) }
+        → IsQuiet wide (pends_in f.pends.items tlbi.now.issuer)))
+        entries.old.list.items entries.new.list.items }
     ensures cells { entries.new.cells ≡ entries.old.cells }
     ensures size { SameSize entries.old.list entries.new.list }
 {
@@ -127,9 +125,8 @@ pub fn note_entry(
     requires within { k < vec_len entries.old.list }
     requires ready { (e : TheEntry) → slice_get entries.old.list.items k ≡ Some e → spec_is_cover cover ≡ true
         → HasRoom e.pends (lane_of tlbi.now.issuer tlbi.now.broadcast) }
-    ensures entry { (e : TheEntry) → slice_get entries.old.list.items k ≡ Some e → (f : TheEntry) × (position f ≡ position e)
-        × NotesAs cover tlbi.now e f × Waits lists.new.items tlbi.now.issuer e f
-        × ((i : ℕ) → slice_get entries.new.list.items i ≡ (if nat_eq i k then Some f else slice_get entries.old.list.items i)) }
+    ensures entry { ChangesAt k (λ e f. NotesAs cover tlbi.now e f × Waits lists.new.items tlbi.now.issuer e f)
+        entries.old.list.items entries.new.list.items }
     ensures rest { OnlyNotes entries.old entries.new lists.old.items lists.new.items }
 {
     if is_cover(cover) {

@@ -7,7 +7,7 @@ ghost use Rattle.bbm_entry_state.specs.declared.state.EntryState.TheVariants as 
 ghost use Rattle.bbm_place_map.specs.Dsbs.{HasEffect, HoldOpen, IsAudience, IsSettled, IsBusy};
 ghost use Rattle.bbm_place_map.specs.Dsbs.{VisitsAll, VisitsAt, VisitsCell};
 ghost use Rattle.bbm_place_map.specs.Each.{Does, Publishes, is_table as spec_is_table};
-ghost use Rattle.bbm_place_map.specs.Entries.{entry_in, no_pends, pends_in, position};
+ghost use Rattle.bbm_place_map.specs.Entries.{ChangesAt, entry_in, no_pends, pends_in};
 ghost use Rattle.bbm_place_map.specs.Sound.{SameSize};
 ghost use Rattle.bbm_place_map.specs.Works.{Holds, HoldsFor, IsTold, Listed, RestsAt, Stays};
 ghost use Rattle.bbm_place_map.specs.declared.entry.Entry.{Entry as TheEntry};
@@ -25,9 +25,7 @@ use bbm_regimes::PeMask;
 fn publish_at(entries: &mut Entries, k: usize, barrier: &Barrier, heard: PeMask)
     requires heard { IsAudience barrier.now heard }
     requires entry_within { k < vec_len entries.old.list }
-    ensures entry { (e : TheEntry) → slice_get entries.old.list.items k ≡ Some e → (f : TheEntry) × (position f ≡ position e)
-        × Publishes barrier.now e f
-        × ((i : ℕ) → slice_get entries.new.list.items i ≡ (if nat_eq i k then Some f else slice_get entries.old.list.items i)) }
+    ensures entry { ChangesAt k (Publishes barrier.now) entries.old.list.items entries.new.list.items }
     ensures cells { entries.new.cells ≡ entries.old.cells }
     ensures size { SameSize entries.old.list entries.new.list }
 {
@@ -40,13 +38,13 @@ fn publish_at(entries: &mut Entries, k: usize, barrier: &Barrier, heard: PeMask)
 /// A DSB of the issuer answered its TLBIs at one entry, which stays for now. Whether its place is cleansed at every PE.
 fn answer_at(entries: &mut Entries, k: usize, barrier: &Barrier) -> bool
     requires within { k < vec_len entries.old.list }
-    ensures entry { (e : TheEntry) → slice_get entries.old.list.items k ≡ Some e → (f : TheEntry) × (position f ≡ position e)
-        × (result ≡ true → Completed (state.Broken e.marks) (pends_in e.pends.items barrier.now.issuer)
+    ensures entry { ChangesAt k (λ e f.
+        (result ≡ true → Completed (state.Broken e.marks) (pends_in e.pends.items barrier.now.issuer)
         barrier.now.dsb barrier.now.n state.Clean no_pends)
         × (result ≡ false → Completed (state.Broken e.marks) (pends_in e.pends.items barrier.now.issuer)
         barrier.now.dsb barrier.now.n (state.Broken f.marks) (pends_in f.pends.items barrier.now.issuer))
-        × ((q : ℕ) → q ≢ barrier.now.issuer → pends_in f.pends.items q ≡ pends_in e.pends.items q)
-        × ((i : ℕ) → slice_get entries.new.list.items i ≡ (if nat_eq i k then Some f else slice_get entries.old.list.items i)) }
+        × ((q : ℕ) → q ≢ barrier.now.issuer → pends_in f.pends.items q ≡ pends_in e.pends.items q))
+        entries.old.list.items entries.new.list.items }
     ensures cells { entries.new.cells ≡ entries.old.cells }
     ensures size { SameSize entries.old.list entries.new.list }
 {

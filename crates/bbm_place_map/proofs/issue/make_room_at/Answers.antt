@@ -10,8 +10,10 @@ returns-clause-entry c = λ e is.
     let f : Entry = record c.index_mut-entry.result.now { pends = c.make_room_for_lane.new.pendings } in (
       f,
       ap position same,
-      (ap (λ (x : Entry). x.marks) same, c.make_room_for_lane.ensures.items ∙ ap (λ (x : Entry). x.pends.items) same),
-      c.make_room_for_lane.ensures.room,
+      (
+        (ap (λ (x : Entry). x.marks) same, c.make_room_for_lane.ensures.items ∙ ap (λ (x : Entry). x.pends.items) same),
+        c.make_room_for_lane.ensures.room,
+      ),
       λ i. set_get c.args.entries.now.list.items c.args.k f i (omega arith),
     )
 

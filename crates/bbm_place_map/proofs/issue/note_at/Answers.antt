@@ -17,12 +17,16 @@ returns-clause-entry c = λ e is.
     let Q : Entry → Type 0 = λ x. IsTrue c.note_pends.result ↔ IsQuiet c.args.tlbi.now.broadcast (pends_in x.pends.items c.args.tlbi.now.issuer) in (
       f,
       ap position same,
-      ap (λ (x : Entry). x.marks) same,
-      λ q other. c.note_pends.ensures.others q other ∙ ap (λ (x : Entry). pends_in x.pends.items q) same,
-      subst P same c.note_pends.ensures.there,
-      λ none. quiet_noted e.marks (pends_in e.pends.items c.args.tlbi.now.issuer) (pends_in c.note_pends.new.pendings.items c.args.tlbi.now.issuer)
-          c.args.tlbi.now.reach c.args.tlbi.now.broadcast c.args.cover
-          (λ quiet. false≢true (sym none ∙ (subst Q same c.note_pends.ensures.quiet).1 quiet)) (subst P same c.note_pends.ensures.there),
+      (
+        (
+          ap (λ (x : Entry). x.marks) same,
+          λ q other. c.note_pends.ensures.others q other ∙ ap (λ (x : Entry). pends_in x.pends.items q) same,
+        ),
+        subst P same c.note_pends.ensures.there,
+        λ none. quiet_noted e.marks (pends_in e.pends.items c.args.tlbi.now.issuer) (pends_in c.note_pends.new.pendings.items c.args.tlbi.now.issuer)
+            c.args.tlbi.now.reach c.args.tlbi.now.broadcast c.args.cover
+            (λ quiet. false≢true (sym none ∙ (subst Q same c.note_pends.ensures.quiet).1 quiet)) (subst P same c.note_pends.ensures.there),
+      ),
       λ i. set_get entries c.args.k f i (omega arith),
     )
 

@@ -28,11 +28,13 @@ returns-clause-entry c = λ e is.
     let Q : Entry → Type 0 = λ y. Completed (state.Broken y.marks) (pends_in y.pends.items c.args.barrier.now.issuer) c.args.barrier.now.dsb c.args.barrier.now.n (state.Broken now) left in (
       f,
       ap position same,
-      λ all. subst P same
-          (c.law_completes.ensures.clean x.marks now pends no_pends c.args.barrier.now.dsb c.take_answered-done.result c.args.barrier.now.n masks (sym c.is_clean.ensures ∙ all) nothing_waits),
-      λ some. subst Q same
-          (c.law_completes.ensures.broken x.marks now pends left c.args.barrier.now.dsb c.take_answered-done.result c.args.barrier.now.n masks (sym c.is_clean.ensures ∙ some) c.take_answered-done.ensures.left),
-      λ q other. c.take_answered-done.ensures.others q other ∙ ap (λ (y : Entry). pends_in y.pends.items q) same,
+      (
+        λ all. subst P same
+            (c.law_completes.ensures.clean x.marks now pends no_pends c.args.barrier.now.dsb c.take_answered-done.result c.args.barrier.now.n masks (sym c.is_clean.ensures ∙ all) nothing_waits),
+        λ some. subst Q same
+            (c.law_completes.ensures.broken x.marks now pends left c.args.barrier.now.dsb c.take_answered-done.result c.args.barrier.now.n masks (sym c.is_clean.ensures ∙ some) c.take_answered-done.ensures.left),
+        λ q other. c.take_answered-done.ensures.others q other ∙ ap (λ (y : Entry). pends_in y.pends.items q) same,
+      ),
       λ i. set_get c.args.entries.now.list.items c.args.k f i (omega arith),
     )
 

@@ -23,18 +23,18 @@ returns-then-answer_at c =
     let f = e.entry x was in
     let at = old.linked.back x.cell c.args.k (ap (option_map the_cell) was) in
     let middle = still_seated old mid e.cells
-    (positions_changed old.cells.items old.list.items mid.list.items x f.0 x.cell c.args.k old.linked at was f.1 f.5) e.size in
+    (positions_changed old.cells.items old.list.items mid.list.items x f.0 x.cell c.args.k old.linked at was f.1 f.3) e.size in
     let gone = λ (j : ℕ) (there : cell_at old.list.items c.args.k ≡ Some j).
-    here_gone by old.cells.items old.list.items mid.list.items c.args.k x f.0 old.linked was f.1 f.5 j there new.cells.items new.list.items
+    here_gone by old.cells.items old.list.items mid.list.items c.args.k x f.0 old.linked was f.1 f.3 j there new.cells.items new.list.items
     (λ j there i. c.unlink.ensures.entries j there i
-    ∙ ap (λ (v : Vec ℕ Global). if nat_eq i j then None else entry_in v.items mid.list.items i) e.cells) (f.2 c.if-answer_at.true) in
+    ∙ ap (λ (v : Vec ℕ Global). if nat_eq i j then None else entry_in v.items mid.list.items i) e.cells) (f.2.0 c.if-answer_at.true) in
     record {
       visited = record { sound = still_more middle c.unlink.ensures.sound; seats = tt };
       short = omega (arith, e.size.len);
       here = λ j there. (gone j there).0;
       answer = λ j there. c.is_table.ensures ∙ (gone j there).1;
       others = λ i j there. (gone j there).2 i;
-      front = λ m below. c.unlink.ensures.front m below ∙ put_away _ _ f.5 m (λ same. absurd (omega arith));
+      front = λ m below. c.unlink.ensures.front m below ∙ put_away _ _ f.3 m (λ same. absurd (omega arith));
     }
 
 pub returns-else-answer_at : goal.returns-else-answer_at
@@ -43,5 +43,5 @@ returns-else-answer_at c =
     let was = entry_read c.args.entries.now.list.items c.args.k x (omega arith) c.index.ensures in
     let e = c.answer_at.ensures in
     let f = e.entry x was in
-    visit_stays Complete c.args.barrier.now c.args.entries.now c.answer_at.new.entries c.args.k x f.0 e.cells was f.1 f.5 e.size
-    (record { own = f.3 c.if-answer_at.false; others = λ q other b cover p. ap (λ (y : Pends). waits y b cover p) (f.4 q other) })
+    visit_stays Complete c.args.barrier.now c.args.entries.now c.answer_at.new.entries c.args.k x f.0 e.cells was f.1 f.3 e.size
+    (record { own = f.2.1 c.if-answer_at.false; others = λ q other b cover p. ap (λ (y : Pends). waits y b cover p) (f.2.2 q other) })

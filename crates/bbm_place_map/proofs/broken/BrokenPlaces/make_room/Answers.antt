@@ -11,8 +11,8 @@ invariant_of-self c =
     let e = entry_there self.entries.list.items c.args.k (rw (← c.self.view_is) at c.requires) in
     let r = c.make_room_at.ensures in
     let f = r.entry e.0 e.1 in (
-      sound_changed self.entries new c.args.k e.0 f.0 e.1 f.1 f.4 r.cells r.size c.self.invariant.0,
-      listed_made self.entries new c.args.k e.0 f.0 e.1 f.1 f.4 r.cells f.2 self.work c.self.invariant.1,
+      sound_changed self.entries new c.args.k e.0 f.0 e.1 f.1 f.3 r.cells r.size c.self.invariant.0,
+      listed_made self.entries new c.args.k e.0 f.0 e.1 f.1 f.3 r.cells f.2.0 self.work c.self.invariant.1,
     )
 
 pub returns : goal.returns
@@ -20,5 +20,5 @@ returns c =
     let r = c.make_room_at.ensures in
     rw (← c.self.view_is) (record {
       same = record { pages = refl; len = r.size.len };
-      entry = λ e is. let f = r.entry e is in (f.0, f.1, (f.2, f.3), f.4);
+      entry = r.entry;
     })

@@ -11,9 +11,9 @@ invariant_of-self c =
     let e = entry_there self.entries.list.items c.args.k (rw (← c.self.view_is) at c.requires.within) in
     let r = c.note_entry.ensures in
     let f = r.entry e.0 e.1 in (
-      sound_changed self.entries new c.args.k e.0 f.0 e.1 f.1 f.4 r.rest.cells r.rest.size c.self.invariant.0,
-      listed_after self.entries new c.args.k e.0 f.0 e.1 f.1 f.4 r.rest.cells c.args.tlbi.now self.work
-          c.note_entry.new.lists r.rest (f.2.0, f.2.1) f.3 c.self.invariant.1,
+      sound_changed self.entries new c.args.k e.0 f.0 e.1 f.1 f.3 r.rest.cells r.rest.size c.self.invariant.0,
+      listed_after self.entries new c.args.k e.0 f.0 e.1 f.1 f.3 r.rest.cells c.args.tlbi.now self.work
+          c.note_entry.new.lists r.rest (f.2.0.0, f.2.0.1) f.2.1 c.self.invariant.1,
     )
 
 pub returns : goal.returns
@@ -21,5 +21,5 @@ returns c =
     let r = c.note_entry.ensures in
     rw (← c.self.view_is) (record {
       same = record { pages = refl; len = r.rest.size.len };
-      entry = λ e is. let f = r.entry e is in (f.0, f.1, f.2, f.4);
+      entry = λ e is. let f = r.entry e is in (f.0, f.1, f.2.0, f.3);
     })
