@@ -67,6 +67,21 @@ fn says(
     Ok(status == said.1 && sink.bytes() == said.0)
 }
 
+/// The words, the log, the read and the write that fail with the sink's room, what is written, and the status.
+type Row = (&'static str, &'static [u8], (u64, u64, usize), Said);
+
+/// The first row of which its command says something else.
+fn first_other(alloc: Global, rows: &[Row]) -> Result<Option<usize>, AllocError> {
+    for (at, row) in rows.iter().enumerate() {
+        let (read, write, room) = row.2;
+        let faults = Faults { read, write, room };
+        if !says(alloc, row.0, row.1, faults, row.3)? {
+            return Ok(Some(at));
+        }
+    }
+    Ok(None)
+}
+
 /// A header and no event.
 const EMPTY: &[u8] = b"bbmlog 1 hyp 2 1 1 1
 end 0

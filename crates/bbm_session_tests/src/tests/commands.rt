@@ -1,6 +1,6 @@
 //! Each command once. The texts were worked out by hand.
 
-use super::{Faults, NO_FAULTS, NOT_FLUSHED, REMAP, Said, says};
+use super::{Faults, NO_FAULTS, NOT_FLUSHED, REMAP, Row, first_other, says};
 use std::alloc::{AllocError, Global};
 use std::test::Fail;
 
@@ -42,14 +42,18 @@ c place 1 0x40000008 5 6 7
 end 2
 ";
 
-/// The words, the log, the text and the status. No contract says that there is memory: with ample memory the log of the
-/// first row is accepted, so a body that always answers want of memory fails here.
-const RUNS: [(&str, &[u8], Said); 9] = [
-    ("check", REMAP, (b"accepted 8 events\n", 0)),
-    ("slow", REMAP, (b"accepted 8 events\n", 0)),
+/// Nothing fails, and the sink has room.
+const ROOM: (u64, u64, usize) = (0, 0, 600);
+
+/// No contract says that there is memory: with ample memory the log of the first row is accepted, so a body that always
+/// answers want of memory fails here.
+const RUNS: [Row; 9] = [
+    ("check", REMAP, ROOM, (b"accepted 8 events\n", 0)),
+    ("slow", REMAP, ROOM, (b"accepted 8 events\n", 0)),
     (
         "explain",
         NOT_FLUSHED,
+        ROOM,
         (
             b"refused line 6 rule 4 break-before-make at 0x40000008\npe 0 broken\npe 1 broken\n",
             1,
@@ -58,39 +62,37 @@ const RUNS: [(&str, &[u8], Said); 9] = [
     (
         "walk el2 0x40000000 0x40001234",
         REMAP,
+        ROOM,
         (b"accepted 8 events\nwalk out 0xc0001234 level 1\n", 0),
     ),
     (
         "idle",
         b"bbmlog 1 hyp 2 1 1 1\ndmb 0 ish\nisb 0\nend 2\n",
+        ROOM,
         (b"accepted 2 events\nidle line 2\nidle line 3\n", 0),
     ),
-    ("counterrun", REPLACED, (RUN, 1)),
-    ("follow", RUN, (b"run 6 steps conflict line 7\n", 0)),
+    ("counterrun", REPLACED, ROOM, (RUN, 1)),
+    ("follow", RUN, ROOM, (b"run 6 steps conflict line 7\n", 0)),
     (
         "cert",
         REMAP,
+        ROOM,
         (
             b"bbmcert 1\nc place 0 0x40000008 5 6 7\nc place 1 0x40000008 5 6 7\nend 2\n",
             0,
         ),
     ),
-    ("verify", CERTIFIED, (b"verified 8 events 2 claims\n", 0)),
+    (
+        "verify",
+        CERTIFIED,
+        ROOM,
+        (b"verified 8 events 2 claims\n", 0),
+    ),
 ];
-
-/// The first row of which its command says something else.
-fn first_other(alloc: Global) -> Result<Option<usize>, AllocError> {
-    for (at, row) in RUNS.iter().enumerate() {
-        if !says(alloc, row.0, row.1, NO_FAULTS, row.2)? {
-            return Ok(Some(at));
-        }
-    }
-    Ok(None)
-}
 
 #[test]
 fn each_command_judges(rt: HostRuntime) -> Result<(), Fail> {
-    assert_eq!(rt; first_other(rt.alloc())?, None);
+    assert_eq!(rt; first_other(rt.alloc(), &RUNS)?, None);
     Ok(())
 }
 

@@ -1,6 +1,6 @@
 //! Reads of a log and writes of a text that fail.
 
-use super::{Faults, NO_FAULTS, NOT_FLUSHED, REMAP, Said, judged, says};
+use super::{Faults, NO_FAULTS, NOT_FLUSHED, REMAP, Row, first_other, judged, says};
 use std::alloc::{AllocError, Global};
 use std::test::Fail;
 
@@ -38,9 +38,6 @@ isb 0
 m drop 1
 end 1
 ";
-
-/// The words, the log, the read and the write that fail with the sink's room, what is written, and the status.
-type Row = (&'static str, &'static [u8], (u64, u64, usize), Said);
 
 const OF_A_LOG: [Row; 7] = [
     ("check", REMAP, (177, 0, 200), (b"accepted 8 events\n", 0)),
@@ -117,18 +114,6 @@ const OF_A_RUN: [Row; 5] = [
     ("follow", BAD, (0, 1, 200), (b"", 5)),
     ("follow", BAD, (0, 0, 5), (b"bad s", 5)),
 ];
-
-/// The first row of which its command says something else.
-fn first_other(alloc: Global, rows: &[Row]) -> Result<Option<usize>, AllocError> {
-    for (at, row) in rows.iter().enumerate() {
-        let (read, write, room) = row.2;
-        let faults = Faults { read, write, room };
-        if !says(alloc, row.0, row.1, faults, row.3)? {
-            return Ok(Some(at));
-        }
-    }
-    Ok(None)
-}
 
 #[test]
 fn faults_are_told(rt: HostRuntime) -> Result<(), Fail> {

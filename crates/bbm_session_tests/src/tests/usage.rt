@@ -52,7 +52,7 @@ const NO_REQUESTS: [&str; 38] = [
 ];
 
 /// The first words that the usage line doesn't answer, though the first read would fail.
-fn first_other(alloc: Global) -> Result<Option<usize>, AllocError> {
+fn first_unanswered(alloc: Global) -> Result<Option<usize>, AllocError> {
     let unread = Faults {
         read: 1,
         ..NO_FAULTS
@@ -67,6 +67,6 @@ fn first_other(alloc: Global) -> Result<Option<usize>, AllocError> {
 
 #[test]
 fn tells_the_usage(rt: HostRuntime) -> Result<(), Fail> {
-    assert_eq!(rt; first_other(rt.alloc())?, None);
+    assert_eq!(rt; first_unanswered(rt.alloc())?, None);
     Ok(())
 }
