@@ -81,7 +81,7 @@ pub fn maps_page(kind: Kind, level: Level, core: &Option<Core>, page: Page) -> b
 impl Outputs {
     /// Whether the page is among them.
     #[inline(always)]
-    pub fn has(&self, page: Page) -> bool
+    pub(crate) fn has(&self, page: Page) -> bool
         ensures { result ≡ in_outputs self.now page }
     {
         let page = page.get();
@@ -90,7 +90,7 @@ impl Outputs {
 
     /// The one page among them, where they are those of a leaf of level 3.
     #[inline(always)]
-    pub fn only_page(&self) -> Option<Page>
+    pub(crate) fn only_page(&self) -> Option<Page>
         ensures is_one { self.now.first < 2 ^ 48 → self.now.first % PAGE_BYTES ≡ 0
             → self.now.behind ≡ self.now.first + PAGE_BYTES → result ≡ Some self.now.first }
         ensures only { IfSome result (λ only. (page : ℕ) → page % PAGE_BYTES ≡ 0
@@ -103,14 +103,14 @@ impl Outputs {
     }
 
     /// None.
-    pub const NONE: Outputs = Outputs {
+    pub(crate) const NONE: Outputs = Outputs {
         first: u64::MAX,
         behind: 0,
     };
 
     /// The page alone.
     #[inline(always)]
-    pub fn of_page(page: Page) -> Outputs
+    pub(crate) fn of_page(page: Page) -> Outputs
         ensures { in_outputs result page ≡ true }
     {
         let first = page.get();
@@ -122,7 +122,7 @@ impl Outputs {
 
     /// Whether the other ones lie within these. False says nothing.
     #[inline(always)]
-    pub fn covers(&self, other: &Outputs) -> bool
+    pub(crate) fn covers(&self, other: &Outputs) -> bool
         ensures { result ≡ true → (page : ℕ) → in_outputs other.now page ≡ true → in_outputs self.now page ≡ true }
     {
         self.first <= other.first && other.behind <= self.behind
@@ -130,7 +130,7 @@ impl Outputs {
 
     /// Whether none of the other ones is among these. False says nothing.
     #[inline(always)]
-    pub fn is_apart(&self, other: &Outputs) -> bool
+    pub(crate) fn is_apart(&self, other: &Outputs) -> bool
         ensures { result ≡ true → (page : ℕ) → in_outputs other.now page ≡ true → in_outputs self.now page ≡ false }
     {
         other.behind <= self.first || self.behind <= other.first
@@ -138,7 +138,7 @@ impl Outputs {
 
     /// Bounds of both.
     #[inline(always)]
-    pub fn joined(&self, other: &Outputs) -> Outputs
+    pub(crate) fn joined(&self, other: &Outputs) -> Outputs
         ensures first { result.first ≡ min self.now.first other.now.first }
         ensures behind { result.behind ≡ max self.now.behind other.now.behind }
         ensures one { (page : ℕ) → in_outputs self.now page ≡ true → in_outputs result page ≡ true }
