@@ -86,14 +86,14 @@ impl PageNumbers {
                 return Some(number);
             }
         }
-        let number = self.search(page)?;
+        let number = self.find_by_digits(page)?;
         self.recent = Some((page, number));
         Some(number)
     }
 
     /// `number`, which keeps the last node on the way to the page.
     #[inline(always)]
-    fn search(&mut self, page: Page) -> Option<PageNumber>
+    fn find_by_digits(&mut self, page: Page) -> Option<PageNumber>
         ensures number { result ≡ number_in self.old page }
         ensures same { self.new ≡ self.old }
     {

@@ -3,7 +3,7 @@ use Rattle.bbm_page_map.proofs.Finding.{fits_less, further, none_reached, node_w
 use Rattle.bbm_page_map.proofs.Leading.{number_small, number_told, page_fits}
 use Rattle.bbm_page_map.specs.PageLists.{entry_of}
 use Rattle.bbm_page_map.specs.SlotNodes.{reached, slot}
-use Rattle.bbm_page_map.proofs.numbers.PageNumbers.search.Goals as goal
+use Rattle.bbm_page_map.proofs.numbers.PageNumbers.find_by_digits.Goals as goal
 
 pub returns-then-is_empty-clause-number : goal.returns-then-is_empty-clause-number
 returns-then-is_empty-clause-number c =
