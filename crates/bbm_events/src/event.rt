@@ -80,7 +80,7 @@ pub enum Event {
 /// lines.
 #[derive(Clone, Copy, PartialEq, Eq)]
 pub enum Item {
-    /// An event line. Only a line under version 3 or 4 has a label.
+    /// An event line. Only a line under version 3 or later has a label.
     Event(Event, Option<Label>),
     /// The last line, with its count.
     End(u32),

@@ -47,7 +47,7 @@ fn is_root_lock(lock: Option<u16>) -> bool
     lock.is_none_or(|lock| lock < LOCKS)
 }
 
-/// Whether the header's version has the operation: those for a range of pages are of version 4.
+/// Whether the header's version has the operation: those for a range of pages came with version 4.
 pub fn has_op(header: &Header, op: TlbiOp) -> bool
     ensures { result ≡ heading.has_op header.now.version op }
 {
@@ -71,7 +71,7 @@ fn is_operand(op: TlbiOp, xt: u64) -> bool
 /// Whether the event can stand in a log with this header: its PE is below the header's number, its
 /// lock is below 1,024, its operand is 0 where the operation has none, and a root is aligned to its
 /// number of pages, which is 1 but for stage 2 of the Hyp world. An operation for a range of pages asks for
-/// version 4. Source: project's own choice, but for
+/// version 4 or later. Source: project's own choice, but for
 /// the alignment: Arm ARM (DDI 0487), "VMSAv8-64 translation table walks", concatenated translation tables.
 pub fn fits(header: &Header, event: Event) -> bool
     ensures { result ≡ fits_heading header.now event }

@@ -184,7 +184,7 @@ pub fn read_line<'a>(header: &Header, line: &'a [u8]) -> Result<LineItem<'a>, Ma
 /// newline. Where the line isn't the one spelling of an item, the answer is the first cause:
 /// `UnknownWord` where the first field is no word of the table of lines, and then, for each field from
 /// left to right, `MissingField` where it is absent and else the cause of its kind where it can't be
-/// read. Under versions 3 and 4 a label can follow the last field of an event line: `BadLabel` where the
+/// read. Under version 3 and later a label can follow the last field of an event line: `BadLabel` where the
 /// field there begins with `@` and isn't a label. At last `ExtraField` where a further field follows.
 pub fn read_event(header: &Header, line: &[u8]) -> Result<Item, Malformed>
     ensures item { result ≡ item_of header.now line.now }

@@ -55,7 +55,7 @@ impl<'a> LabelText<'a> {
 /// What a line after the header says: an `Item`, with its label where that stands in the line.
 #[derive(Drop)]
 pub enum LineItem<'a> {
-    /// An event line. Only a line under version 3 or 4 has a label.
+    /// An event line. Only a line under version 3 or later has a label.
     Event(Event, Option<LabelText<'a>>),
     /// The last line, with its count.
     End(u32),

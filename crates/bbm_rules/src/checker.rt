@@ -31,9 +31,9 @@ pub trait Checker: Memory {
 
     /// Takes an event that fits the header, after fewer than 2^64 - 1 events. Ok exactly where the event
     /// breaks no rule and reaches no limit, and there is memory; then the checker stands for the history
-    /// with the event. After any other answer it is as before: `Broken` with the least rule that the event
-    /// breaks and the number that the rule names; `Limit` with the limit of pages, roots or values that an
-    /// event which keeps the rules reaches; `NoMemory`, in the place of any answer.
+    /// with the event. After any other answer it stands for what it stood for: `Broken` with the least rule
+    /// that the event breaks and the number that the rule names; `Limit` with the limit of pages, roots or
+    /// values that an event which keeps the rules reaches; `NoMemory`, in the place of any answer.
     fn step(&mut self, alloc: Global, event: Event) -> Result<(), StepFault>
         requires { MayTake (stands self.old) event }
         ensures judged { (heading : Heading) (h : List Event) → stands self.old heading h
