@@ -1,5 +1,5 @@
 -- What an entry and a place of a tree have in common, where the entry was read through the place.
-use Rattle.std.specs.Prelude.{◌≡◌, Bool, true, false, ◌≤◌}
+use Rattle.std.specs.Prelude.{◌≡◌, ◌⊎◌, Bool, true, false, not, ◌&&◌, ◌≤◌}
 use Rattle.bbm_regimes.specs.Extent.{holds}
 use Rattle.bbm_regimes.specs.declared.regime.Kind.{Kind}
 use Rattle.bbm_regimes.specs.declared.regime.Kind.TheVariants.{El2, S2, Ttbr0, Ttbr1}
@@ -11,6 +11,10 @@ use Rattle.bbm_tlbi_scope.specs.declared.entry.EntryHead.{EntryHead}
 use Rattle.bbm_tlbi_scope.specs.declared.entry.PlaceView.{PlaceView}
 use Rattle.bbm_tlbi_scope.specs.declared.entry.TagSet.{TagSet}
 use Rattle.bbm_tlbi_scope.specs.declared.entry.TagSet.TheVariants.{None as NoTag, One, Many}
+use Rattle.bbm_tlbi_scope.specs.declared.entry.Cover.{Cover}
+use Rattle.bbm_tlbi_scope.specs.declared.entry.Cover.TheVariants.{Half, Second, Full}
+use Rattle.bbm_tlbi_scope.specs.declared.scope.Family.{Family}
+use Rattle.bbm_tlbi_scope.specs.Operations.{has_asid}
 use Rattle.bbm_tlbi_scope.specs.Takes.{is_global_leaf}
 
 -- whether entries of this kind are read through trees of that kind
@@ -57,3 +61,18 @@ pub record Agrees (e : EntryHead) (v : PlaceView) : Type 0 where
   pub lower : v.kind ≡ Ttbr0 → is_global_leaf e ≡ false
   -- an entry that ends in a leaf of the upper range is for every ASID where the leaf is
   pub upper : v.kind ≡ Ttbr1 → v.table ≡ false → v.global ≡ true → e.global ≡ true
+
+-- An entry that ends at the place, whose root holds no other tag: so that what takes the entry covers the place.
+pub record EndsAlone (f : Family) (e : EntryHead) (v : PlaceView) : Type 0 where
+  pub agrees : Agrees e v
+  -- the root of the place holds the entry's tag alone
+  pub alone : v.tags ≡ One (tag_of v.kind e)
+  -- a table at the place is childless
+  pub ending : v.table ≡ true → v.childless ≡ true
+  -- in the upper range the entry and the leaf at the place are for every ASID, or the TLBI isn't for one ASID alone
+  pub for_all : v.kind ≡ Ttbr1 → ((is_global_leaf e ≡ true) × ((not v.table && v.global) ≡ true)) ⊎ (has_asid f ≡ false)
+
+-- How far a place is covered by what takes an entry that ends there: in full; or half, where the entry is one of stage 2;
+-- or the rest, where it combines the stages.
+abbrev pub IsCoverFor : EntryKind → Cover → Type 0
+IsCoverFor kind cover = (cover ≡ Full) ⊎ (((kind ≡ Stage2) × (cover ≡ Half)) ⊎ ((kind ≡ Combined) × (cover ≡ Second)))

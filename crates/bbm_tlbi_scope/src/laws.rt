@@ -10,7 +10,7 @@ ghost use Rattle.bbm_tlbi_scope.specs.declared.entry.EntryKind.TheVariants.{Stag
 ghost use Rattle.bbm_tlbi_scope.specs.declared.entry.PlaceView.{PlaceView};
 ghost use Rattle.bbm_tlbi_scope.specs.declared.entry.Cover.{Cover};
 ghost use Rattle.bbm_tlbi_scope.specs.declared.entry.Cover.TheVariants.{None as NoCover, Half, Second, Full};
-ghost use Rattle.bbm_tlbi_scope.specs.Agreement.{Agrees, read_through, tag_of};
+ghost use Rattle.bbm_tlbi_scope.specs.Agreement.{Agrees, EndsAlone, IsCoverFor, read_through, tag_of};
 ghost use Rattle.bbm_tlbi_scope.specs.ScopeCovers.{cover_of};
 ghost use Rattle.bbm_tlbi_scope.specs.Ranges.{IsOver, AtSomePage, at_page, is_lowest};
 ghost use Rattle.bbm_tlbi_scope.specs.ScopeTags.{takes_whole_tag};
@@ -27,6 +27,14 @@ pub fn law_cover_takes()
         Agrees e v → e.kind ≡ Stage2 → cover_of s vmid v ≡ Half → taken s vmid e ≡ true }
     ensures second { (s : Scope) (vmid : Option ℕ) (e : EntryHead) (v : PlaceView) →
         Agrees e v → e.kind ≡ Combined → cover_of s vmid v ≡ Second → taken s vmid e ≡ true }
+{}
+
+/// What takes an entry covers the place at which the entry ends, where the root of the place holds no tag but
+/// that of the entry: in full, or half where the entry is one of stage 2, or the rest where it combines the
+/// stages. The call does nothing; the law is its contract.
+pub fn law_taken_is_covered()
+    ensures { (s : Scope) (vmid : Option ℕ) (e : EntryHead) (v : PlaceView) →
+        EndsAlone s.family e v → taken s vmid e ≡ true → IsCoverFor e.kind (cover_of s vmid v) }
 {}
 
 /// A TLBI that takes a whole tag takes each entry of the tag, where no entry of the lower range ends in a

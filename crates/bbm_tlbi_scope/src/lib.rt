@@ -14,7 +14,7 @@ pub mod taking;
 pub use covering::{cover, where_fits};
 pub use decoding::decode;
 pub use entry::{Cover, EntryHead, EntryKind, PlaceView, TagSet};
-pub use laws::{law_cover_takes, law_range, law_whole_tag_takes};
+pub use laws::{law_cover_takes, law_range, law_taken_is_covered, law_whole_tag_takes};
 pub use op::TlbiOp;
 pub use scope::{BadOperand, Family, Scope, lacks_vmid};
 pub use tag_set::with_tag;
