@@ -3,7 +3,7 @@ use Rattle.bbm_histories.proofs.Common.{Heading, Event, Rule, Below}
 use Rattle.bbm_rules.specs.declared.rule.Rule.TheVariants.{TableMapped}
 use Rattle.bbm_rules.proofs.Common.{◌≡◌, Bool, true, false, List, [], ◌∷◌, ◌++◌, None, is_none, refl, ◌∙◌, ap}
 use Rattle.bbm_rules.proofs.Common.{and_from, and_parts, breaks, keeps, Trust, note, noted, Noted, events_of}
-use Rattle.bbm_rules.proofs.Common.{length, suc, sym, true≢false}
+use Rattle.bbm_rules.proofs.Common.{length, length-append, suc, sym, true≢false, arith, ℕ, ◌+◌, ◌≤◌}
 use Rattle.bbm_rules.specs.Broken.{broken}
 
 -- every rule but that on table pages, which asks the trees and what they hold, and says nothing of them
@@ -47,7 +47,30 @@ module _ (heading : Heading) (trust : Trust) where
   throughout b P start step (e ∷ h) k =
       let parts = last_kept b h e k in step h e parts.0 parts.1 (throughout b P start step h parts.0)
 
--- ---- splits of an annotated history and of its events
+-- ---- splits of a list, of an annotated history and of its events
+
+-- of two splits of one list, that with the longer second part lies before the other
+pub record Between {X : Type 0} (newer older first rest : List X) : Type 0 where
+  pub between : List X
+  pub start : first ≡ newer ++ between
+  pub end : older ≡ between ++ rest
+
+pub between_splits : {X : Type 0} (newer older first rest : List X) → newer ++ older ≡ first ++ rest → length rest ≤ length older
+    → Between newer older first rest
+between_splits [] older first rest e le = record { between = first; start = refl; end = e }
+between_splits (n ∷ newer) older [] rest e le =
+    let long : length (newer ++ older) ≡ length newer + length older = length-append newer older in
+    let same : suc (length (newer ++ older)) ≡ length rest = ap length e in
+    absurd (omega (arith, long, same, le))
+between_splits {X} (n ∷ newer) older (y ∷ first) rest e le =
+    let head : n ≡ y = cc in
+    let tail : newer ++ older ≡ first ++ rest = cc in
+    let b : Between newer older first rest = between_splits newer older first rest tail le in
+    record {
+      between = b.between;
+      start = ap (λ (z : X). z ∷ first) (sym head) ∙ ap (λ (zs : List X). n ∷ zs) b.start;
+      end = b.end;
+    }
 
 pub events_append : (newer older : List Noted) → events_of (newer ++ older) ≡ events_of newer ++ events_of older
 events_append [] older = refl

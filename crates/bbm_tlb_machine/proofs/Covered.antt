@@ -146,7 +146,7 @@ module _ (heading : Heading) (trust : Trust) (k : Known heading trust) (h : List
 
     module _ (w : ValidWrite) (last : last_valid part.kind part.level part.place notes ≡ Some w) (p q : ℕ) (near : IsNear heading x p)
         (t : Issued Noted) (o : Open event_of q w.since t) (b : Noted) (published : Publication heading part.place p t.before b)
-        (made : x.since < b.position) (cover : Cover) (some : cover ≡ NoCover → ⊥) (covered : t.tlbi.covers part.place ≡ cover) where
+        (made : x.since < b.position) where
       was_seen : seen heading part.place p t.before ≡ true
       was_seen = k.seen.complete part.place p t.before (b, published)
 
@@ -158,14 +158,14 @@ module _ (heading : Heading) (trust : Trust) (k : Known heading trust) (h : List
         is_last = rw (at.kind, at.level) last;
       }
 
-      view : View heading trust (noted heading trust h) (g.placed part i).node part.place (g.holding part i).value o.newer t.before t.tlbi
+      pub view : View heading trust (noted heading trust h) (g.placed part i).node part.place (g.holding part i).value o.newer t.before t.tlbi
       view = k.frozen_view h kept n part.place value p w o.newer t.before t.tlbi holds_it o.split was_seen
 
       is_split : h ≡ events_of o.newer ++ t.tlbi.event ∷ events_of view.older
       is_split = sym (k.notes_keep_the_events h)
           ∙ (ap events_of view.split ∙ events_append o.newer (t.tlbi ∷ view.older))
 
-      is_noted : view.older ≡ noted heading trust (events_of view.older)
+      pub is_noted : view.older ≡ noted heading trust (events_of view.older)
       is_noted = (k.notes.each h o.newer view.older t.tlbi view.split).0
 
       kept_then : keeps heading trust (events_of view.older) ≡ true
@@ -174,21 +174,15 @@ module _ (heading : Heading) (trust : Trust) (k : Known heading trust) (h : List
           (subst (λ (es : List Event). keeps heading trust es ≡ true)
           (is_split ∙ sym (append_assoc (events_of o.newer) (t.tlbi.event ∷ []) (events_of view.older))) kept)
 
-      node_then : node_of heading trust view.older (page_of part.place) ≡ Some (g.placed part i).node
+      pub node_then : node_of heading trust view.older (page_of part.place) ≡ Some (g.placed part i).node
       node_then =
           ap (node_of heading trust view.older) at.inside
           ∙ subst (λ (xs : List Noted). node_of heading trust xs n.page ≡ Some n) (sym is_noted)
           (k.one_node.the_first (events_of view.older) kept_then n
           (subst (λ (xs : List Noted). Contains (tree heading trust xs) n) is_noted view.was.in_tree))
 
-      view_then : view_at heading trust view.older part.place ≡ Some (view_of heading trust view.older (g.placed part i).node part.place (g.holding part i).value)
+      pub view_then : view_at heading trust view.older part.place ≡ Some (view_of heading trust view.older (g.placed part i).node part.place (g.holding part i).value)
       view_then = rw (node_then, view.was.holds)
-
-      covers : CoversBy heading view.older t.tlbi.event (view_of heading trust view.older (g.placed part i).node part.place (g.holding part i).value) cover
-      covers =
-          covers_by heading trust view.older t.tlbi.event part.place (view_of heading trust view.older n part.place value) cover
-          view_then some
-          (ap (λ (c : ℕ → Cover). c part.place) (sym (k.notes.each h o.newer view.older t.tlbi view.split).1) ∙ covered)
 
       -- the events before the TLBI
       write : IsLastValid (g.placed part i).node.kind (g.placed part i).node.level part.place view.older (record { value = (g.holding part i).value; since = t.before })
@@ -211,25 +205,32 @@ module _ (heading : Heading) (trust : Trust) (k : Known heading trust) (h : List
       since_then =
           let le = earlier published.newer (published.between ++ published.write ∷ published.older) b published.split in omega (arith, le, made)
 
-      agrees_then : Agrees (head_of x) (view_of heading trust view.older (g.placed part i).node part.place (g.holding part i).value)
+      pub agrees_then : Agrees (head_of x) (view_of heading trust view.older (g.placed part i).node part.place (g.holding part i).value)
       agrees_then =
           agrees view.older (events_of o.newer ++ t.tlbi.event ∷ [])
           (is_split ∙ sym (append_assoc (events_of o.newer) (t.tlbi.event ∷ []) (events_of view.older))) since_then
           (k.limbo_is_empty h kept n part.place value p w o.newer t.before view.older t.tlbi holds_it o.split view.split was_seen)
 
-      was_covering : Covering heading x t cover view.older
-      was_covering = record {
-        view = view_of heading trust view.older n part.place value;
-        by_scope = covers;
-        agrees = agrees_then;
-        since = since_then;
-        earlier = earlier;
-      }
+      module _ (cover : Cover) (some : cover ≡ NoCover → ⊥) (covered : t.tlbi.covers part.place ≡ cover) where
+        covers : CoversBy heading view.older t.tlbi.event (view_of heading trust view.older (g.placed part i).node part.place (g.holding part i).value) cover
+        covers =
+            covers_by heading trust view.older t.tlbi.event part.place (view_of heading trust view.older n part.place value) cover
+            view_then some
+            (ap (λ (c : ℕ → Cover). c part.place) (sym (k.notes.each h o.newer view.older t.tlbi view.split).1) ∙ covered)
 
-      pub covering : (older : List Noted) → noted heading trust h ≡ o.newer ++ t.tlbi ∷ older → Covering heading x t cover older
-      covering older whole =
-          let split : o.newer ++ t.tlbi ∷ view.older ≡ o.newer ++ t.tlbi ∷ older = sym view.split ∙ whole in
-          let tails : t.tlbi ∷ view.older ≡ t.tlbi ∷ older
-          = append_cancel_left o.newer (t.tlbi ∷ view.older) (t.tlbi ∷ older) split in
-          let same : view.older ≡ older = cc in
-          subst (λ (ns : List Noted). Covering heading x t cover ns) same was_covering
+        was_covering : Covering heading x t cover view.older
+        was_covering = record {
+          view = view_of heading trust view.older n part.place value;
+          by_scope = covers;
+          agrees = agrees_then;
+          since = since_then;
+          earlier = earlier;
+        }
+
+        pub covering : (older : List Noted) → noted heading trust h ≡ o.newer ++ t.tlbi ∷ older → Covering heading x t cover older
+        covering older whole =
+            let split : o.newer ++ t.tlbi ∷ view.older ≡ o.newer ++ t.tlbi ∷ older = sym view.split ∙ whole in
+            let tails : t.tlbi ∷ view.older ≡ t.tlbi ∷ older
+            = append_cancel_left o.newer (t.tlbi ∷ view.older) (t.tlbi ∷ older) split in
+            let same : view.older ≡ older = cc in
+            subst (λ (ns : List Noted). Covering heading x t cover ns) same was_covering

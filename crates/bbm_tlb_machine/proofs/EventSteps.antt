@@ -10,11 +10,12 @@ use Rattle.bbm_rules.proofs.Common.{Bool, ◌&&◌, ◌||◌, nat_le, true≢fal
 use Rattle.bbm_rules.specs.Roots.{given_up_since}
 use Rattle.bbm_tlb_machine.specs.Entry.{Entry, Part, head_of, is_given_up, parts_of, tag_of_entry}
 use Rattle.bbm_tlb_machine.specs.Invariant.{Fine, Holding, IsAt, Rooted}
+use Rattle.bbm_tlb_machine.specs.FineSteps.{LeavesIt}
 use Rattle.bbm_tlb_machine.specs.KnownOfMachine.{Known}
 use Rattle.bbm_tlb_machine.proofs.Descs.{no_need}
 use Rattle.bbm_tlb_machine.proofs.Facts.{held_there, held_valid, tag_now}
 use Rattle.bbm_tlb_machine.proofs.InTrees.{all_placed}
-use Rattle.bbm_tlb_machine.proofs.Patterns.{LeavesIt, joined_before_after, made_before_after, tagged_after}
+use Rattle.bbm_tlb_machine.proofs.Patterns.{joined_before_after, made_before_after, tagged_after}
 use Rattle.bbm_tlb_machine.proofs.Patterns.{uncleansed_after}
 use Rattle.bbm_histories.proofs.Induction.{kept_before}
 

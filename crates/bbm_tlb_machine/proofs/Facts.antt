@@ -13,34 +13,11 @@ use Rattle.std.proofs.lemmas.List.{append_assoc}
 use Rattle.bbm_lemmas.proofs.Words.{same_number}
 use Rattle.bbm_rules.proofs.SearchLemmas.{Found, some_finds, some_found}
 use Rattle.bbm_rules.specs.Roots.{given_up_since}
-use Rattle.bbm_histories.proofs.Induction.{kept_before}
+use Rattle.bbm_histories.proofs.Induction.{Between, between_splits, kept_before}
 use Rattle.bbm_tlb_machine.specs.Entry.{Entry, Part, desc_in, head_of, is_given_up, is_leaf, parts_of, tag_of_entry}
 use Rattle.bbm_tlb_machine.specs.Invariant.{Holding, IsAt, Placed, Rooted, Tagged}
 use Rattle.bbm_tlb_machine.specs.KnownOfMachine.{Known}
 use Rattle.bbm_tlb_machine.proofs.Descs.{means_same}
-
--- of two splits of one list, that with the longer second part lies before the other
-record Between {X : Type 0} (newer older first rest : List X) : Type 0 where
-  between : List X
-  start : first ≡ newer ++ between
-  end : older ≡ between ++ rest
-
-between_splits : {X : Type 0} (newer older first rest : List X) → newer ++ older ≡ first ++ rest → length rest ≤ length older
-    → Between newer older first rest
-between_splits [] older first rest e le = record { between = first; start = refl; end = e }
-between_splits (n ∷ newer) older [] rest e le =
-    let long : length (newer ++ older) ≡ length newer + length older = length-append newer older in
-    let same : suc (length (newer ++ older)) ≡ length rest = ap length e in
-    absurd (omega (arith, long, same, le))
-between_splits {X} (n ∷ newer) older (y ∷ first) rest e le =
-    let head : n ≡ y = cc in
-    let tail : newer ++ older ≡ first ++ rest = cc in
-    let b : Between newer older first rest = between_splits newer older first rest tail le in
-    record {
-      between = b.between;
-      start = ap (λ (z : X). z ∷ first) (sym head) ∙ ap (λ (zs : List X). n ∷ zs) b.start;
-      end = b.end;
-    }
 
 begins_with : {X : Type 0} (item : X) (older between rest : List X) → item ∷ older ≡ between ++ rest → length rest ≤ length older
     → (more : List X) × (between ≡ item ∷ more)

@@ -16,6 +16,7 @@ mod Covered
 pub mod Descs
 mod EventSteps
 mod Facts
+mod FineSteps
 pub mod FollowSteps
 pub mod GivenUp
 mod InTrees

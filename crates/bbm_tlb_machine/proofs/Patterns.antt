@@ -4,8 +4,8 @@ use Rattle.bbm_rules.proofs.Common.{◌≡◌, ◌⊎◌, ℕ, suc, ◌<◌, ◌
 use Rattle.bbm_rules.proofs.Common.{Some, None, Contains, refl, sym, ◌∙◌, ap, subst, inl, inr, arith, true≢false}
 use Rattle.bbm_rules.proofs.Common.{and_parts, Kind, read_through, tag_of, takes_whole_tag, taken, Cover, Half, Second}
 use Rattle.bbm_rules.proofs.Common.{Full, EntryKind, Combined, keeps, Trust, note, noted, ValidWrite, last_valid, Noted}
-use Rattle.bbm_rules.proofs.Common.{events_of, Answer, HalfBy, IsLastValid, Publication, Barrier, Heading, S2, Tag}
-use Rattle.bbm_rules.proofs.Common.{Event, Dsb, Tlbi, Issued, completes, reaches, unanswered, vmid_of, Open, TakenAway}
+use Rattle.bbm_rules.proofs.Common.{events_of, Answer, HalfBy, IsLastValid, Publication, Heading, S2, Tag}
+use Rattle.bbm_rules.proofs.Common.{Event, Dsb, Tlbi, Issued, reaches, vmid_of, Open, TakenAway}
 use Rattle.bbm_rules.proofs.Common.{itself, takes_tag}
 use Rattle.std.proofs.lemmas.List.{append_assoc}
 use Rattle.bbm_rules.specs.PatternSentences.{Flush}
@@ -15,6 +15,7 @@ use Rattle.bbm_tlbi_scope.specs.declared.scope.Scope.{Scope}
 use Rattle.bbm_tlb_machine.specs.Entry.{Entry, Part, age_by, head_of, is_given_up, parts_of, tag_of_entry}
 use Rattle.bbm_tlb_machine.specs.Invariant.{Fine, Goes, IsNear, JoinedBefore, MadeBefore, Tagged, Taken, Unanswered}
 use Rattle.bbm_tlb_machine.specs.Invariant.{Rooted, Uncleansed}
+use Rattle.bbm_tlb_machine.specs.FineSteps.{LeavesIt}
 use Rattle.bbm_tlb_machine.specs.KnownOfMachine.{Known}
 use Rattle.bbm_tlb_machine.specs.Step.{must_go}
 use Rattle.bbm_tlb_machine.proofs.AfterEvent.{AnswersNow, answer_after, half_before, last_step, no_answer}
@@ -22,11 +23,6 @@ use Rattle.bbm_tlb_machine.proofs.AfterEvent.{no_publication, publication_after}
 use Rattle.bbm_histories.proofs.Induction.{events_length}
 use Rattle.bbm_tlb_machine.proofs.Scopes.{Scoped, must_go_by, scoped, through_s2, whole_age}
 use Rattle.bbm_tlb_machine.proofs.Taken.{half_through, open_among, reached_here, taken as taken_entry}
-
--- the event leaves no entry that a TLBI which it answers must have taken: this one neither
-abbrev pub LeavesIt : Heading → List Event → Event → Entry → Type 0
-LeavesIt heading h e x = (q : ℕ) (dsb : Barrier) → e ≡ Dsb q dsb → (t : Issued Event) → Contains (unanswered itself q h) t
-    → completes dsb t.tlbi ≡ true → must_go heading t x ≡ false
 
 s2_if_combined : (kind : Kind) → read_through Combined kind ≡ true → kind ≡ S2
 s2_if_combined S2 e = refl

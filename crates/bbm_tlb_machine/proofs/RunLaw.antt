@@ -16,7 +16,7 @@ use Rattle.bbm_tlb_machine.specs.Step.{Extends, Starts, may_extend, may_start, m
 use Rattle.bbm_tlb_machine.proofs.ListWords.{is_none, none_in}
 
 module _ (heading : Heading) where
-  starts_from : (h : List Event) (x : Entry) (n : ℕ) → may_start heading h x n ≡ true → Starts heading h x n
+  pub starts_from : (h : List Event) (x : Entry) (n : ℕ) → may_start heading h x n ≡ true → Starts heading h x n
   starts_from h x n k =
       let a = and_parts _ _ k in
       let b = and_parts _ _ a.0 in
@@ -26,7 +26,7 @@ module _ (heading : Heading) where
   starts_to : (h : List Event) (x : Entry) (n : ℕ) → Starts heading h x n → may_start heading h x n ≡ true
   starts_to h x n s = and_from _ _ (and_from _ _ (and_from _ _ s.tag s.numbered) s.readable) s.valid
 
-  extends_from : (h : List Event) (x : Entry) (place value : ℕ) → may_extend heading h x place value ≡ true
+  pub extends_from : (h : List Event) (x : Entry) (place value : ℕ) → may_extend heading h x place value ≡ true
       → Extends heading h x place value
   extends_from h x place value k =
       let a = and_parts _ _ k in

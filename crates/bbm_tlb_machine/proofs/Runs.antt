@@ -16,6 +16,7 @@ use Rattle.bbm_rules.proofs.Common.{holds_tag, nat_le}
 use Rattle.bbm_rules.specs.Roots.{given_up_since}
 use Rattle.bbm_tlb_machine.specs.Entry.{Entry, Part, is_given_up, parts_of, tag_of_entry}
 use Rattle.bbm_tlb_machine.specs.Invariant.{Fine, Holding, Placed, Tagged, Taken as TakenBy}
+use Rattle.bbm_tlb_machine.specs.FineSteps.{LeavesIt}
 use Rattle.bbm_tlb_machine.specs.KnownOfMachine.{Known}
 use Rattle.bbm_tlb_machine.specs.MachineRun.{IsRun, Leads, LeavesNone, Living, State, entry_at, with_entry}
 use Rattle.bbm_tlb_machine.specs.Safe.{ComesTo, IsLog, OneRootATag, ReadsThrough, Safe}
@@ -23,7 +24,7 @@ use Rattle.bbm_tlb_machine.proofs.Descs.{no_need}
 use Rattle.bbm_tlb_machine.proofs.EventSteps.{fine_after, still_up}
 use Rattle.bbm_tlb_machine.proofs.Facts.{held_there, held_valid, tag_left, tag_now}
 use Rattle.bbm_tlb_machine.proofs.Made.{fine_combined, fine_extended, fine_shared, fine_start}
-use Rattle.bbm_tlb_machine.proofs.Patterns.{LeavesIt, tagged_after}
+use Rattle.bbm_tlb_machine.proofs.Patterns.{tagged_after}
 use Rattle.bbm_tlb_machine.proofs.Taken.{taken}
 use Rattle.bbm_lemmas.proofs.Elements.{any_finds, contains_after, from_contains, from_filter, to_contains}
 use Rattle.bbm_histories.proofs.Induction.{kept_before}
@@ -114,7 +115,7 @@ module _ (heading : Heading) (trust : Trust) (k : Known heading trust) where
   -- ---- one root a tag
 
   -- before any event nothing is readable
-  none_read : (order : Bool) (world : World) (pe : ℕ) (r : Reading) → Contains (readings_in order world [] pe) r → ⊥
+  pub none_read : (order : Bool) (world : World) (pe : ℕ) (r : Reading) → Contains (readings_in order world [] pe) r → ⊥
   none_read order (Hyp world) pe r i = contains_none r i
   none_read order (Kernel world) pe r i = by order world.asid_from i
     where

@@ -1,6 +1,6 @@
 -- What the crates below prove of their definitions, as one record, so that each proof here takes it as one hypothesis.
 use Rattle.std.specs.Prelude.{◌≡◌, ℕ, true, false, Option}
-use Rattle.bbm_tlbi_scope.specs.Agreement.{Agrees, read_through, tag_of}
+use Rattle.bbm_tlbi_scope.specs.Agreement.{Agrees, EndsAlone, IsCoverFor, read_through, tag_of}
 use Rattle.bbm_tlbi_scope.specs.ScopeCovers.{cover_of}
 use Rattle.bbm_tlbi_scope.specs.ScopeTags.{takes_whole_tag}
 use Rattle.bbm_tlbi_scope.specs.Takes.{is_global_leaf, taken}
@@ -37,6 +37,8 @@ pub record Known (heading : Heading) (trust : Trust) : Type 0 where
       → cover_of s vmid v ≡ Half → taken s vmid e ≡ true
   pub second_takes : (s : Scope) (vmid : Option ℕ) (e : EntryHead) (v : PlaceView) → Agrees e v → e.kind ≡ Combined
       → cover_of s vmid v ≡ Second → taken s vmid e ≡ true
+  pub taken_covers : (s : Scope) (vmid : Option ℕ) (e : EntryHead) (v : PlaceView) → EndsAlone s.family e v
+      → taken s vmid e ≡ true → IsCoverFor e.kind (cover_of s vmid v)
   pub whole_tag_takes : (s : Scope) (vmid : Option ℕ) (e : EntryHead) (kind : Kind)
       → read_through e.kind kind ≡ true → (kind ≡ Ttbr0 → is_global_leaf e ≡ false)
       → takes_whole_tag s vmid (tag_of kind e) ≡ true → taken s vmid e ≡ true

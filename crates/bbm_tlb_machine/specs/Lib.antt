@@ -1,5 +1,6 @@
 pub mod Accepted
 pub mod Entry
+pub mod FineSteps
 pub mod First
 pub mod Followed
 pub mod Invariant

@@ -22,8 +22,8 @@ pub use looking::can_read;
 pub use machine::{FollowFault, Machine, follow};
 pub use pending::{Pending, is_answered, must_leave, take_event};
 pub use safety::{
-    law_accepted_is_isolated, law_accepted_is_safe, law_fine, law_isolated, law_one_root_a_tag,
-    law_safe, law_walks_tables,
+    known, law_accepted_is_isolated, law_accepted_is_safe, law_fine, law_fine_steps, law_isolated,
+    law_one_root_a_tag, law_safe, law_walks_tables,
 };
 pub use starting::{FirstRead, combine, extend, start};
 pub use step::Step;

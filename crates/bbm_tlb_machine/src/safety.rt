@@ -8,6 +8,7 @@ ghost use Rattle.bbm_rules.specs.Outcome.{verdict_of_bytes};
 ghost use Rattle.bbm_rules.specs.declared.limits.Limits.{Limits};
 ghost use Rattle.bbm_rules.specs.declared.verdict.Verdict.TheVariants.{Accepted};
 ghost use Rattle.bbm_tlb_machine.specs.Accepted.{HoldsOfLog};
+ghost use Rattle.bbm_tlb_machine.specs.FineSteps.{FineSteps};
 ghost use Rattle.bbm_tlb_machine.specs.Isolated.{IsolatedBySay, WalksTables};
 ghost use Rattle.bbm_tlb_machine.specs.KnownOfMachine.{Known};
 ghost use Rattle.bbm_tlb_machine.specs.MachineLaws.{EntriesAreFine, KeptHasOneRoot, KeptIsIsolated, KeptIsSafe};
@@ -26,10 +27,10 @@ use bbm_rules::{
     law_mapped, law_notes, law_notes_keep_the_events, law_readable_tag, law_root, law_root_pages,
     law_seen, law_tag_held, law_tag_kept, law_tag_left, law_tag_set, law_tree,
 };
-use bbm_tlbi_scope::{law_cover_takes, law_whole_tag_takes};
+use bbm_tlbi_scope::{law_cover_takes, law_taken_is_covered, law_whole_tag_takes};
 
 /// The laws of the crates below that the law of safe logs stands on.
-fn known()
+pub fn known()
     ensures { (heading : Heading) (trust : Trust) → heading_ok heading ≡ true → Known heading trust }
 {
     law_answered();
@@ -62,6 +63,7 @@ fn known()
     law_tag_left();
     law_tag_set();
     law_tags();
+    law_taken_is_covered();
     law_tree();
     law_uniform();
     law_whole_tag_takes();
@@ -73,6 +75,14 @@ fn known()
 /// be said, and each event fits it. The law is `EntriesAreFine`.
 pub fn law_fine()
     ensures { (heading : Heading) (trust : Trust) → EntriesAreFine heading trust }
+{
+    known();
+}
+
+/// What a step or an event makes of a fine entry is fine, and what strikes a fine entry covers the place at which it
+/// ends, over each log that keeps the rules, whatever the rules trust. The law is `FineSteps`.
+pub fn law_fine_steps()
+    ensures { (heading : Heading) (trust : Trust) → heading_ok heading ≡ true → FineSteps heading trust }
 {
     known();
 }

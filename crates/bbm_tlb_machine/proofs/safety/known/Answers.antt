@@ -8,6 +8,7 @@ returns c heading trust ok = record {
   full_takes = c.law_cover_takes.ensures.full;
   half_takes = c.law_cover_takes.ensures.half;
   second_takes = c.law_cover_takes.ensures.second;
+  taken_covers = c.law_taken_is_covered.ensures;
   whole_tag_takes = c.law_whole_tag_takes.ensures;
   answered = c.law_answered.ensures;
   childless = c.law_childless.ensures heading trust;
