@@ -1,6 +1,7 @@
 mod Common
 mod AnswerSteps
 mod CasesRuns
+mod CasesOpen
 mod CasesWays
 mod ChoiceSteps
 mod FindRun
@@ -14,16 +15,19 @@ mod LeastGoals
 mod LeastReads
 mod MapCode
 mod NumberCode
+mod OpenWalks
 mod OneEntry
 mod Order
 mod PlainTest
 mod ReadCode
+mod ReachedOpen
 mod RunCode
 mod RunLength
 mod RunTexts
 mod SearchCode
 mod SearchPlain
 mod Sights
+mod StaysUp
 mod StepsFit
 mod WalkCode
 mod WalkSteps

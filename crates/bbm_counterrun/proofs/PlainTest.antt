@@ -25,7 +25,7 @@ split : (P : List Event → Type 0) (n : ℕ) → ((newer older : List Event) �
 split P n f h le =
     subst P (take-append-drop (length h - n) h) (f (take (length h - n) h) _ (length-drop (length h - n) h ∙ omega (arith, le)))
 
-older_is : (h newer older : List Event) (n : ℕ) → h ≡ newer ++ older → length older ≡ n → first_events n h ≡ older
+pub older_is : (h newer older : List Event) (n : ℕ) → h ≡ newer ++ older → length older ≡ n → first_events n h ≡ older
 older_is h newer older n e c =
     ap (first_events n) e ∙ drop_at newer older (length (newer ++ older) - n) (omega (arith, length-append newer older, c))
 

@@ -5,5 +5,6 @@ pub mod RunSteps
 pub mod Plans
 pub mod RefusedWrite
 pub mod Searching
+pub mod StandsOpen
 pub mod Tested
 pub mod Ways

@@ -3,6 +3,7 @@
 
 mod answers;
 mod combining;
+mod exact;
 mod finding;
 mod first_run;
 mod laws;
@@ -17,6 +18,7 @@ mod trying;
 mod walk;
 mod way;
 
+pub use exact::law_rule_is_exact;
 pub use first_run::{find, find_over_leaf};
 pub use laws::{
     law_conflict_at_the_end, law_one_run, law_plain_is_tested, law_run_is_short, law_steps_fit,

@@ -13,3 +13,4 @@ pub mod CertifiedText
 pub mod CounterrunLines
 pub mod RefusedLogs
 pub mod CounterrunTexts
+mod OpenTexts

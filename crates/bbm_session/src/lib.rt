@@ -13,6 +13,7 @@ mod keeping;
 pub mod laws;
 mod line;
 mod obeying;
+mod open_law;
 mod reading;
 mod showing;
 mod stop;
@@ -27,4 +28,5 @@ pub use laws::{
     law_cert, law_cert_then_verify, law_certificate_says_yes, law_generated_is_accepted,
     law_verified_is_safe,
 };
+pub use open_law::law_open_is_written;
 pub use top::run;
