@@ -1,17 +1,5 @@
 mod AfterEvent
 mod Cases
-mod CasesAges
-mod CasesAsids
-mod CasesAsked
-mod CasesFlush
-mod CasesFlushTag
-mod CasesInOrder
-mod CasesNumbers
-mod CasesParts
-mod CasesReads
-mod CasesShare
-mod CasesVmids
-mod CasesUnflushed
 mod Covered
 pub mod Descs
 mod EventSteps
