@@ -1,9 +1,5 @@
 # SPDX-License-Identifier: Apache-2.0
-"""Mutants of crates: texts that turn a source, those of mutants/NAME and the must-fail edits of crates/NAME.
-
-A mutant is a file of lines `file: PATH`, `old: TEXT` and `new: TEXT`. Where its crate's own proofs let it pass, a line
-`above: CRATE` names the crate above whose contracts refuse it; an edit of the gate has none.
-"""
+"""Mutants of crates: texts that turn a source, those of mutants/NAME and the must-fail edits of crates/NAME."""
 import collections
 import os
 import re
@@ -11,7 +7,7 @@ import re
 from ending import Unable
 
 TOP = os.path.dirname(os.path.dirname(os.path.realpath(__file__)))
-Mutant = collections.namedtuple("Mutant", "name pairs places above")
+Mutant = collections.namedtuple("Mutant", "name pairs places")
 
 
 class Unfit(Unable):
@@ -30,12 +26,6 @@ def pairs_of(text):
         elif word == "new:":
             found.append((file, old, rest))
     return found
-
-
-def above_of(text):
-    """Returns the crate above that refuses the mutant, or '' where its own one does."""
-    found = re.search(r"(?m)^above: (\w+)$", text)
-    return found[1] if found else ""
 
 
 def applied(texts, pairs):
@@ -105,7 +95,7 @@ def mutant_of(name, text, texts):
     for file, old, _ in pairs:
         if old in texts[file]:
             places.add(function_at(file, texts[file].index(old), texts) if file.startswith("src/") else "")
-    return Mutant(name, pairs, frozenset() if "" in places else frozenset(places), above_of(text))
+    return Mutant(name, pairs, frozenset() if "" in places else frozenset(places))
 
 
 def mutants_of(crate):
