@@ -58,10 +58,9 @@ def say_check(program: Program, source: Source, asked: Asked) -> int:
 
 def say_why(program: Program, source: Source, asked: Asked) -> int:
     from why.log.lines import Log
-    from why.log.stream import faults
     from why.repairs.study import studied
     from why.telling import answer as telling
-    from why.telling import picture
+    from why.telling import files, picture
     from why.telling.style import style_of
 
     answer = source.answer(program, "check")
@@ -73,8 +72,7 @@ def say_why(program: Program, source: Source, asked: Asked) -> int:
     emit(telling.as_json(parts, finding_of(answer, asked.log)) if asked.format else telling.text_of(answer, parts))
     for path, make in ((asked.svg, picture.svg), (asked.html, picture.html)):
         if path:
-            with faults(path, Status.UNWRITTEN), open(path, "w", encoding="utf-8") as file:
-                file.write(make(parts, answer))
+            files.write(path, make(parts, answer))
     return answer.status
 
 
@@ -86,13 +84,13 @@ def say_findings(program: Program, source: Source, asked: Asked) -> int:
 
     deviations = known.read(asked.known) if asked.known else []
     first = source.answer(program, "check")
-    log = Log(source.read() if first.refusal else b"")
-    findings = findings_of(program, log, first, asked.most) if first.refusal else Findings([], first)
-    report = Report(log, asked.log, findings, deviations, asked.known)
-    if asked.write_known:
-        known.write(asked.write_known, [one.answer.refusal for one in findings.found], deviations, asked.log)
+    data = source.read() if first.refusal else b""
+    findings = findings_of(program, data, first, asked.most) if first.refusal else Findings.of_answer(first)
+    report = Report(Log(data), asked.log, findings, deviations, asked.known)
     emit(FORMS[asked.format](report))
     explain(findings.last, source)
+    if asked.write_known:
+        known.write(asked.write_known, [item.met for item in report.items], deviations, asked.log)
     return report.status
 
 

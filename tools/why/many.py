@@ -16,8 +16,10 @@ from tempfile import TemporaryDirectory
 from threading import RLock
 
 from why.asking.program import Status, emit
-from why.log.stream import faults
+from why.telling import files, known, sarif
+from why.telling.findings import unread
 
+LINE = re.compile(r"[^\n]*\n|[^\n]+")
 UNMET = re.compile(r"unmet line \d+ of .*|.*: note: no finding meets .* \[bbm\]|::notice .*title=bbm::no finding meets .*|\{\"verdict\": \"unmet\".*")
 JUDGED = (Status.ACCEPTED, Status.REFUSED, Status.MALFORMED, Status.LIMIT)
 
@@ -90,16 +92,18 @@ class Many:
             with contextlib.suppress(OSError):
                 os.write(2, told)
             greatest = max(greatest, status)
+            if form and status not in JUDGED and not text:
+                text = unread(why_of(told, status), log, form)
             if form == "sarif":
-                results += [json.loads(text)] if text else []
+                results.append(json.loads(text))
                 continue
-            lines = text.splitlines(keepends=True)
+            lines = LINE.findall(text)
             alone = [line for line in lines if self.word == "findings" and UNMET.fullmatch(line[:-1])]
             if status in JUDGED:
                 unmet = alone if unmet is None else [line for line in unmet if line in alone]
             if lines or status != Status.UNABLE:
                 emit(self.named(log, "".join(line for line in lines if line not in alone), form))
-        emit(joined(results) if form == "sarif" else "".join(unmet or []))
+        emit(sarif.joined(results) if form == "sarif" else "".join(unmet or []))
         return greatest
 
     def named(self, log: str, text: str, form: str) -> str:
@@ -107,24 +111,21 @@ class Many:
         return text if form or len(self.logs) == 1 else f"{log}: {text or chr(10)}"
 
     def write_known(self) -> None:
-        """Joins the files that the runs wrote: a line for each rule and label or place."""
-        path, lines = self.options.get("write-known"), {}
-        if not path:
-            return
-        for part in sorted(os.listdir(self.folder.name), key=int):
-            with open(f"{self.folder.name}/{part}", encoding="utf-8", errors="surrogateescape") as file:
-                for line in file:
-                    lines.setdefault(tuple(line.split()[:2]), line)
-        with faults(path, Status.UNWRITTEN), open(path, "w", encoding="utf-8", errors="surrogateescape") as file:
-            file.writelines(lines.values())
+        """Joins the files that the runs wrote."""
+        path = self.options.get("write-known")
+        if path:
+            files.write(path, known.joined(map(self.read, sorted(os.listdir(self.folder.name), key=int))))
+
+    def read(self, name: str) -> str:
+        """What a run wrote to a file of the folder."""
+        with open(f"{self.folder.name}/{name}", encoding="utf-8", errors="surrogateescape") as file:
+            return file.read()
 
 
-def joined(logs: list[dict]) -> str:
-    """One log of SARIF with the results of these."""
-    if not logs:
-        return ""
-    logs[0]["runs"][0]["results"] = [result for log in logs for result in log["runs"][0]["results"]]
-    return json.dumps(logs[0]) + "\n"
+def why_of(told: bytes, status: int) -> str:
+    """What a run that gave no answer said last of that."""
+    lines = [line.removeprefix("bbm: ") for line in told.decode("utf-8", "surrogateescape").split("\n") if line.startswith("bbm: ")]
+    return lines[-1] if lines else f"the script ended with status {status}, so there is no answer"
 
 
 def run(script: str, word: str, *items: str) -> int:

@@ -3,17 +3,19 @@
 from __future__ import annotations
 
 import json
-from urllib.parse import quote
+from dataclasses import dataclass, field
+from functools import cached_property
 
 from why.asking.program import Answer, Verdict
 from why.log.lines import Log
-from why.repairs.findings import Findings, Found
-from why.telling import formats
+from why.repairs.changes import Change
+from why.repairs.findings import Findings, Found, Stop
+from why.repairs.sites import Cause
+from why.telling import formats, sarif
 from why.telling.answer import edit_of
 from why.telling.edits import Teller
-from why.telling.known import Deviation, met
-
-SCHEMA = "https://json.schemastore.org/sarif-2.1.0.json"
+from why.telling.formats import Finding
+from why.telling.known import Deviation, Met, met
 
 
 def changes(count: int) -> str:
@@ -21,120 +23,155 @@ def changes(count: int) -> str:
     return "" if not count else "with the change of finding 1" if count == 1 else f"with the changes of findings 1 to {count}"
 
 
+@dataclass
+class Item:
+    """What is shown of one finding: the line that decides, the texts behind it, where its cause is, at how many lines, what the object
+    of it has besides, and the change of the log, where there is one."""
+
+    finding: Finding
+    met: Met
+    texts: list[str]
+    before: str = ""
+    cause: Finding | None = None
+    times: int = 1
+    fields: dict = field(default_factory=dict)
+    change: Change | None = None
+    known: Deviation | None = None
+    found: object = None
+
+    @property
+    def often(self) -> str:
+        """How often it is met, and by which line of the source."""
+        if self.times == 1:
+            return ""
+        by = f", by the lines of @{self.cause.verdict.label}" if self.cause else ""
+        return f"{self.times} times, first at line {self.finding.verdict.line}{by}"
+
+    @property
+    def note(self) -> str:
+        """The texts as one."""
+        text = ", ".join(filter(None, (self.before, self.often, *self.texts)))
+        return f"known, {self.known.comment}: {text}" if self.known and self.known.comment else text
+
+    @property
+    def lines(self) -> list[str]:
+        """The texts, each for a line."""
+        comment = [f"known: {self.known}"] if self.known else []
+        return [text for text in (*comment, self.before, self.often, *self.texts) if text]
+
+
+def cause_of(cause: Cause | None, log: str) -> Finding | None:
+    """The line of a cause, as what is shown of a line."""
+    what = cause and f"the cause, {'behind ' * cause.is_behind}a `{cause.word}`"
+    return cause and formats.of_verdict(Verdict("cause", line=cause.at, name=what, label=cause.label), log)
+
+
 class Report:
     """What was found of one log, whose name is empty where it has none; which findings are known, and the lines of the file of
     known deviations that none of them meets, where these are told."""
 
     def __init__(self, log: Log, name: str, findings: Findings, deviations: list[Deviation], path: str = ""):
-        self.name, self.found, self.last, self.teller, self.path = name, findings.found, findings.last, Teller(log), path
-        self.known = [met(deviations, one.answer.refusal) for one in self.found]
-        self.unmet = [it for it in deviations if path and not any(it.meets(one.answer.refusal) for one in self.found)]
+        self.name, self.findings, self.path, self.deviations = name, findings, path, deviations
+        self.found, self.last, self.teller = findings.found, findings.last, Teller(log)
+        for item in self.items:
+            item.known = met(deviations, item.met)
+            item.finding = formats.of_verdict(item.finding.verdict, name, bool(item.known))
+        self.unmet = [it for it in deviations if path and not any(it.meets(item.met) for item in self.items)]
+
+    @cached_property
+    def items(self) -> list[Item]:
+        return [self.item(count, one) for count, one in enumerate(self.found)]
+
+    def item(self, count: int, one: Found) -> Item:
+        """What is shown of a refusal with its change."""
+        refusal, cause = one.answer.refusal, cause_of(one.cause, self.name)
+        whole = self.found[count + 1].answer if count + 1 < len(self.found) else self.last
+        texts = self.teller.repair(one.repair)[:-1] if one.repair else ["nothing of what is tried gets past it"]
+        repair = {"edits": [edit_of(edit) for edit in one.change.edits], "told": texts, "whole": formats.finding_of(whole).fields} \
+            if one.repair else None
+        where = {"cause": {"line": one.cause.at, "word": one.cause.word, **cause.source}} if cause else {}
+        fields = {"finding": count + 1, "times": one.times, **where, "repair": repair}
+        return Item(formats.of_verdict(refusal, self.name), Met(str(refusal.rule), refusal.label, refusal.at, refusal.line, cause.verdict.label if cause else ""),
+                    texts, changes(count), cause, one.times, fields, one.repair and one.repair.change, found=one)
 
     @property
     def status(self) -> int:
         """Known findings don't count, where the log was judged to its end."""
-        return self.last.status or int(not all(self.known))
-
-    def told(self, one: Found) -> list[str]:
-        """The change of a finding, a text for each of its parts."""
-        return self.teller.repair(one.repair)[:-1] if one.repair else ["nothing of what is tried gets past it"]
+        return self.last.status or int(not all(item.known for item in self.items))
 
     def end(self) -> str:
         """Where it ends, and what the program says there."""
-        count = len(self.found)
-        if self.found and self.found[-1].repair is None:
+        if self.findings.stop is Stop.NO_CHANGE:
             return f"it stops at line {self.last.line}, and nothing behind that is judged"
         said = "the whole log is accepted" if self.last.accepted else f"`{self.last.first}`, and nothing behind that is judged"
-        return " ".join(filter(None, (changes(count), said)))
+        return " ".join(filter(None, (changes(len(self.found)), said)))
 
     def text(self) -> str:
         lines = []
-        for count, one in enumerate(self.found, 1):
-            known = self.known[count - 1]
-            texts = [*([f"known: {known}"] if known else []), changes(count - 1), *self.told(one)]
-            lines += [f"finding {count}: {one.answer.first}", *(f"  {text}" for text in texts if text)]
+        for count, item in enumerate(self.items, 1):
+            lines += [f"finding {count}: {self.first(item)}", *(f"  {text}" for text in item.lines)]
         lines += [f"unmet line {it.line} of {self.path}: {it}" for it in self.unmet]
-        count = sum(map(bool, self.known))
-        return "".join(f"{line}\n" for line in (*lines, f"findings {len(self.found)}{f', {count} known' * bool(count)}: {self.end()}"))
+        count = sum(bool(item.known) for item in self.items)
+        return "".join(f"{line}\n" for line in (*lines, f"findings {len(self.items)}{f', {count} known' * bool(count)}: {self.end()}"))
+
+    def first(self, item: Item) -> str:
+        return item.found.answer.first
 
     # ---- forms
 
-    @property
-    def is_judged(self) -> bool:
-        """Whether the end is a refusal or the acceptance of the log with all changes, and no line that can't be judged."""
-        return self.last.accepted or self.last.refusal is not None
-
-    def shown(self) -> list[Answer]:
-        """The answers to show: the findings, and a line that can't be judged; or where there is neither that the log is accepted."""
-        more = [] if self.found and self.is_judged else [self.last]
-        return [*(one.answer for one in self.found), *more]
-
-    def notes(self) -> list[str]:
-        """For each shown answer of which log it is, and its change."""
-        notes = [", ".join(filter(None, (changes(count), *self.told(one)))) for count, one in enumerate(self.found)]
-        notes = [f"known, {known.comment}: {note}" if known and known.comment else note for known, note in zip(self.known, notes)]
-        return notes + [changes(len(self.found))] * (len(self.shown()) - len(notes))
-
-    def shown_findings(self) -> list[tuple[formats.Finding, str]]:
-        """What is shown, with its note."""
-        known = [*map(bool, self.known), False]
-        return [(formats.finding_of(answer, self.name, is_known), note) for answer, note, is_known in zip(self.shown(), self.notes(), known)]
+    @cached_property
+    def ends(self) -> list[tuple[Finding, str]]:
+        """What is shown of the end with its note: that the log is accepted, where there is no finding; a line that can't be judged; or
+        that the search stops."""
+        if self.findings.stop in (Stop.NO_CHANGE, Stop.MOST):
+            why = f"nothing behind this line is judged: {self.findings.stop.value}"
+            return [(formats.of_verdict(Verdict(formats.STOPPED, line=self.last.line, name=why, label=self.last.verdict.label), self.name), "")]
+        if self.findings.stop or not self.items:
+            return [(formats.finding_of(self.last, self.name), changes(len(self.found)))]
+        return []
 
     def gcc(self) -> str:
         lines = []
-        for finding, note in self.shown_findings():
+        for item in self.items:
+            lines += [formats.gcc(item.finding), f"{formats.place_of(item.finding)}: note: {formats.on_a_line(item.note)} [bbm]"]
+            if item.cause:
+                lines.append(f"{formats.place_of(item.cause)}: note: {item.cause.message}, line {item.cause.verdict.line} of the log [bbm]")
+        for finding, note in self.ends:
             lines += [formats.gcc(finding), *([f"{formats.place_of(finding)}: note: {note} [bbm]"] if note else [])]
-        lines += [f"{self.path}:{it.line}: note: no finding meets {it} [bbm]" for it in self.unmet]
+        lines += [f"{formats.on_a_line(self.path)}:{it.line}: note: no finding meets {formats.on_a_line(str(it))} [bbm]" for it in self.unmet]
         return "".join(f"{line}\n" for line in lines)
 
     def github(self) -> str:
-        lines = [formats.github(finding) + (f": {formats.data(note)}" if note else "") for finding, note in self.shown_findings()]
+        told = [(item.finding, ", ".join(filter(None, (item.note, self.cause_told(item))))) for item in self.items]
+        lines = [formats.github(finding) + (f": {formats.data(note)}" if note else "") for finding, note in (*told, *self.ends)]
         lines += [f"::notice file={formats.escaped(self.path)},line={it.line},title=bbm::no finding meets {formats.data(str(it))}" for it in self.unmet]
         return "".join(f"{line}\n" for line in lines)
 
+    def cause_told(self, item: Item) -> str:
+        return f"{item.cause.message} at {formats.place_of(item.cause)}" if item.cause and item.cause.file else ""
+
     def objects(self) -> list[dict]:
-        """One for each shown answer."""
-        objects = [formats.finding_of(answer, self.name).fields for answer in self.shown()]
-        nexts = [*(one.answer for one in self.found[1:]), self.last]
-        for count, (one, whole) in enumerate(zip(self.found, nexts)):
-            repair = {"edits": [edit_of(edit) for edit in one.repair.change.edits], "told": self.told(one),
-                      "whole": formats.finding_of(whole).fields} if one.repair else None
-            known = self.known[count]
-            objects[count] |= {"finding": count + 1, "repair": repair, **({"known": known.comment} if known else {})}
+        """One for each finding, and for what is shown of the end."""
+        objects = [{**item.finding.fields, **item.fields, **({"known": item.known.comment} if item.known else {})} for item in self.items]
+        objects += [finding.fields for finding, _ in self.ends]
         return objects + [{"verdict": "unmet", "text": str(it), "file": self.path, "file_line": it.line} for it in self.unmet]
 
     def json(self) -> str:
         return "".join(json.dumps(it) + "\n" for it in self.objects())
 
-    def results(self) -> list[dict]:
-        """The results of SARIF: one for each shown answer that isn't an acceptance."""
-        shown = zip(self.shown_findings(), [*self.known, None])
-        return [result_of(finding, note, known) for (finding, note), known in shown if finding.verdict.line]
-
     def sarif(self) -> str:
-        return sarif_of(self.results())
-
-
-def result_of(finding: formats.Finding, note: str = "", known: Deviation | None = None) -> dict:
-    """A result of SARIF."""
-    line = finding.verdict.line
-    text = finding.message + (f", line {line} of the log" if line else "") + (f": {note}" if note else "")
-    region = {"region": {"startLine": finding.file_line or line}} if line else {}
-    place = {"artifactLocation": {"uri": quote(finding.file or finding.log or formats.UNNAMED)}, **region}
-    more = {"suppressions": [{"kind": "external", "justification": known.comment}]} if known else {}
-    return {"ruleId": finding.tag, "level": "note" if known else "error", "message": {"text": text},
-            "locations": [{"physicalLocation": place}], **more}
-
-
-def sarif_of(results: list[dict]) -> str:
-    run = {"tool": {"driver": {"name": "bbm"}}, "results": results}
-    return json.dumps({"$schema": SCHEMA, "version": "2.1.0", "runs": [run]}) + "\n"
+        results = [sarif.result_of(item.finding, item.note, item.known, item.cause, item.change and sarif.fix_of(item, self.teller.log)) for item in self.items]
+        ends = [(finding, note) for finding, note in self.ends if finding.verdict.line]
+        results += [sarif.result_of(finding, note) for finding, note in ends]
+        return sarif.text_of(results, [sarif.notification_of(finding, note) for finding, note in ends])
 
 
 def unread(why: str, name: str, form: str) -> str:
-    """What is told of a log that can't be read, in each form."""
-    finding = formats.Finding(Verdict(formats.UNREADABLE, name=why), name)
-    return formats.FORMS[form](finding) + "\n" if form in formats.FORMS else sarif_of([result_of(finding)])
+    """What is told of a log that can't be read, or has no answer, in each form."""
+    finding = Finding(Verdict(formats.UNREADABLE, name=why), name)
+    if form in formats.FORMS:
+        return formats.FORMS[form](finding) + "\n"
+    return sarif.text_of([sarif.result_of(finding)], [sarif.notification_of(finding)])
 
 
 FORMS = {"": Report.text, "gcc": Report.gcc, "github": Report.github, "json": Report.json, "sarif": Report.sarif}

@@ -8,7 +8,7 @@ from dataclasses import dataclass
 
 from why.asking.program import Answer, Status, Unable, Verdict
 
-UNNAMED, UNREADABLE = "<stdin>", "unreadable"
+UNNAMED, UNREADABLE, STOPPED, UNLOCKED = "<stdin>", "unreadable", "stopped", "unlocked"
 SOURCE = re.compile(r"(.+):([1-9][0-9]*)")
 
 
@@ -28,28 +28,32 @@ class Finding:
         verdict = self.verdict
         label = f" ({verdict.label})" if verdict.label and not self.file else ""
         return {"accepted": f"accepted {verdict.events} events", "refused": f"{verdict.name} at {hex(verdict.at)}{label}",
-                "malformed": f"malformed line, {verdict.name}", "limit": f"limit {verdict.name}", UNREADABLE: verdict.name}[verdict.word]
+                "malformed": f"malformed line, {verdict.name}", "limit": f"limit {verdict.name}"}.get(verdict.word, verdict.name)
 
     @property
     def tag(self) -> str:
         number = self.verdict.number
-        return {"accepted": "bbm", "refused": f"bbm rule {number}", "malformed": f"bbm cause {number}", "limit": "bbm limit",
-                UNREADABLE: f"bbm {UNREADABLE}"}[self.verdict.word]
+        return {"accepted": "bbm", "refused": f"bbm rule {number}", "malformed": f"bbm cause {number}"}.get(
+            self.verdict.word, f"bbm {self.verdict.word}")
 
     @property
     def fields(self) -> dict:
         verdict = self.verdict
         if verdict.word == "accepted":
             told = {"events": verdict.events}
-        elif verdict.word == UNREADABLE:
-            told = {"why": verdict.name}
+        elif verdict.word in (UNREADABLE, STOPPED):
+            told = {**({"line": verdict.line} if verdict.line else {}), "why": verdict.name, **self.source}
         elif verdict.word == "refused":
-            told = {"line": verdict.line, "rule": verdict.number, "name": verdict.name, "at": hex(verdict.at)}
-            told |= {"label": verdict.label} if verdict.label else {}
-            told |= {"file": self.file, "file_line": self.file_line} if self.file else {}
+            told = {"line": verdict.line, "rule": verdict.number, "name": verdict.name, "at": hex(verdict.at), **self.source}
         else:
             told = {"line": verdict.line, **({"cause": verdict.number} if verdict.number else {}), "name": verdict.name}
         return {"verdict": verdict.word, **told, **({"log": self.log} if self.log else {})}
+
+    @property
+    def source(self) -> dict:
+        """The label, and the file and line that it says."""
+        label = {"label": self.verdict.label} if self.verdict.label else {}
+        return {**label, **({"file": self.file, "file_line": self.file_line} if self.file else {})}
 
 
 def finding_of(answer: Answer, log: str = "", is_known: bool = False) -> Finding:
@@ -57,19 +61,28 @@ def finding_of(answer: Answer, log: str = "", is_known: bool = False) -> Finding
     verdict = answer.verdict
     if verdict is None:
         raise Unable(Status.UNABLE, f"the program ended with status {answer.status} and says `{answer.first[:80]}`, so there is no answer")
+    return of_verdict(verdict, log, is_known)
+
+
+def of_verdict(verdict: Verdict, log: str = "", is_known: bool = False) -> Finding:
     label = SOURCE.fullmatch(verdict.label)
     return Finding(verdict, log, is_known, label.group(1), int(label.group(2))) if label else Finding(verdict, log, is_known)
+
+
+def on_a_line(text: str) -> str:
+    """A text without what would end its line: a name of a file can have any bytes."""
+    return "".join(repr(sign)[1:-1] if sign < " " or sign == "\x7f" else sign for sign in text)
 
 
 def place_of(finding: Finding) -> str:
     """The file, and its line where one decides."""
     line = finding.file_line or finding.verdict.line
-    return f"{finding.file or finding.log or UNNAMED}{f':{line}' if line else ''}"
+    return on_a_line(finding.file or finding.log or UNNAMED) + (f":{line}" if line else "")
 
 
 def gcc(finding: Finding) -> str:
     kind = "note" if finding.verdict.word == "accepted" or finding.is_known else "error"
-    return f"{place_of(finding)}: {kind}: {finding.message} [{finding.tag}]"
+    return f"{place_of(finding)}: {kind}: {on_a_line(finding.message)} [{finding.tag}]"
 
 
 def escaped(text: str, signs: str = "%\r\n:,") -> str:

@@ -1,15 +1,34 @@
 # SPDX-License-Identifier: Apache-2.0
-"""Known deviations: a file with a rule and a label or place on each line, which findings meet (docs/WHY.md)."""
+"""Known deviations: a file with a rule and a label or place on each line, and the label of the cause, which findings meet
+(docs/WHY.md)."""
 from __future__ import annotations
 
 import re
 from collections.abc import Iterable
 from dataclasses import dataclass
 
-from why.asking.program import Status, Unable, Verdict
+from why.asking.program import Status, Unable
 from why.log.stream import faults
+from why.telling import files
 
-FORM = re.compile(r"([0-9]{1,2}) (@[A-Za-z0-9./:_-]{1,32}|0x[0-9a-f]{1,16})(?:\s+#\s*(.*))?")
+LABEL = r"@[A-Za-z0-9./:_-]{1,32}"
+FORM = re.compile(rf"([0-9]{{1,2}}|unlocked) ({LABEL}|0x[0-9a-f]{{1,16}})(?: ({LABEL}))?(?:\s+#\s*(.*))?")
+
+
+@dataclass(frozen=True)
+class Met:
+    """What a line of the file has to say of a finding: the rule by its number, or a word; the label of the make and its place; and the
+    label of the cause, empty where there is none."""
+
+    rule: str
+    label: str
+    place: int
+    line: int
+    cause: str = ""
+
+    @property
+    def at(self) -> str:
+        return f"@{self.label}" if self.label else hex(self.place)
 
 
 @dataclass(frozen=True)
@@ -17,23 +36,32 @@ class Deviation:
     """A line of the file, with its number there."""
 
     line: int
-    rule: int
+    rule: str
     at: str
+    cause: str = ""
     comment: str = ""
 
-    def meets(self, refusal: Verdict) -> bool:
-        return self.rule == refusal.rule and self.at in (f"@{refusal.label}", hex(refusal.at))
+    def meets(self, finding: Met) -> bool:
+        """Whether the finding is this one. A line without a cause meets each cause."""
+        return self.rule == finding.rule and self.at in (f"@{finding.label}", hex(finding.place)) and self.cause in ("", f"@{finding.cause}")
+
+    @property
+    def key(self) -> str:
+        """The line without its comment."""
+        return " ".join(filter(None, (self.rule, self.at, self.cause)))
 
     def __str__(self) -> str:
-        return f"{self.rule} {self.at}" + (f" # {self.comment}" if self.comment else "")
+        return self.key + (f" # {self.comment}" if self.comment else "")
 
 
 def deviation_of(path: str, number: int, text: str) -> Deviation:
     """Fails where the line has another form."""
     found = FORM.fullmatch(text)
     if not found:
-        raise Unable(Status.UNABLE, f"{path}: line {number} isn't `RULE @LABEL` or `RULE PLACE`, and `# COMMENT` behind it, so there is no answer")
-    return Deviation(number, int(found.group(1)), found.group(2), found.group(3) or "")
+        raise Unable(Status.UNABLE, f"{path}: line {number} isn't `RULE @LABEL` or `RULE PLACE`, and `@CAUSE` and `# COMMENT` behind it, so "
+                                    "there is no answer")
+    rule = str(int(found.group(1))) if found.group(1).isdigit() else found.group(1)
+    return Deviation(number, rule, *(part or "" for part in found.groups()[1:]))
 
 
 def read(path: str) -> list[Deviation]:
@@ -43,16 +71,25 @@ def read(path: str) -> list[Deviation]:
     return [deviation_of(path, number, text) for number, text in lines if text and not text.startswith("#")]
 
 
-def met(deviations: Iterable[Deviation], refusal: Verdict) -> Deviation | None:
-    return next((one for one in deviations if one.meets(refusal)), None)
+def met(deviations: Iterable[Deviation], finding: Met) -> Deviation | None:
+    return next((one for one in deviations if one.meets(finding)), None)
 
 
-def write(path: str, refusals: Iterable[Verdict], deviations: list[Deviation], log: str) -> None:
-    """A line for each rule at each label, or place where there is no label; one that is known stays as it is."""
+def write(path: str, findings: Iterable[Met], deviations: list[Deviation], log: str) -> None:
+    """A line for each rule at each label, or place where there is no label, by each cause; one that is known stays as it is."""
     lines: dict[str, str] = {}
-    for refusal in refusals:
-        new = Deviation(0, refusal.rule, f"@{refusal.label}" if refusal.label else hex(refusal.at), f"line {refusal.line} of {log or 'the log'}")
-        one = met(deviations, refusal) or new
-        lines.setdefault(f"{one.rule} {one.at}", f"{one}\n")
-    with faults(path, Status.UNWRITTEN), open(path, "w", encoding="utf-8", errors="surrogateescape") as file:
-        file.writelines(lines.values())
+    for finding in findings:
+        said = re.sub(r"\s", " ", log) or "the log"
+        new = Deviation(0, finding.rule, finding.at, f"@{finding.cause}" if finding.cause else "", f"line {finding.line} of {said}")
+        one = met(deviations, finding) or new
+        lines.setdefault(one.key, f"{one}\n")
+    files.write(path, "".join(lines.values()))
+
+
+def joined(texts: Iterable[str]) -> str:
+    """One file of these: a line for each rule, label or place, and cause."""
+    lines: dict[str, str] = {}
+    for text in texts:
+        for line in filter(None, text.split("\n")):
+            lines.setdefault(line.partition("#")[0].strip(), f"{line}\n")
+    return "".join(lines.values())

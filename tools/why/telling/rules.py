@@ -41,3 +41,9 @@ def cause_of(name: str) -> str | None:
     """Where a cause of a malformed line comes, by docs/FORMAT.md."""
     found = re.search(rf"^\| \d+ {re.escape(name)} \| (.*) \|$", read(FORMAT), re.M)
     return plain(found.group(1)) if found else None
+
+
+def cause_of_number(number: int) -> str | None:
+    """The same, by the number of the cause."""
+    found = re.search(rf"^\| {number} (\w+) \|", read(FORMAT), re.M)
+    return cause_of(found[1]) if found else None
