@@ -4,10 +4,15 @@ from __future__ import annotations
 
 import sys
 from dataclasses import dataclass
+from typing import TYPE_CHECKING
 
 from why.telling.formats import finding_of, shown
 from why.asking.program import Answer, Program, Status, built, emit
-from why.log.stream import Source
+from why.log.stream import Front, Source
+
+if TYPE_CHECKING:
+    from why.asking.unlocks import Unlock
+    from why.repairs.findings import Findings
 
 
 @dataclass(frozen=True)
@@ -20,6 +25,7 @@ class Asked:
     html: str = ""
     whole: bool = False
     pages: bool = False
+    unlocks: bool = False
     at: str = ""
     nth: int = 1
     least: bool = False
@@ -86,12 +92,24 @@ def say_findings(program: Program, source: Source, asked: Asked) -> int:
     first = source.answer(program, "check")
     data = source.read() if first.refusal else b""
     findings = findings_of(program, data, first, asked.most) if first.refusal else Findings.of_answer(first)
-    report = Report(Log(data), asked.log, findings, deviations, asked.known)
+    unlocks = unlocks_in(program, source, findings) if asked.unlocks and findings.last.accepted else []
+    report = Report(Log(data), asked.log, findings, deviations, asked.known, unlocks)
     emit(FORMS[asked.format](report))
     explain(findings.last, source)
+    if asked.html:
+        from why.telling import page
+
+        page.write(asked.html, report)
     if asked.write_known:
         known.write(asked.write_known, [item.met for item in report.items], deviations, asked.log)
     return report.status
+
+
+def unlocks_in(program: Program, source: Source, findings: Findings) -> list[Unlock]:
+    """The places that are held where a lock is given back, of the log with the changes of all findings."""
+    from why.telling.unlocked import found_in
+
+    return found_in(program, findings.changed or source.read(), findings.numbers)
 
 
 def say_shrink(program: Program, source: Source, asked: Asked) -> int:
@@ -122,10 +140,22 @@ def say_pending(program: Program, source: Source, asked: Asked) -> int:
     front = stale.front_of(source, asked.at, asked.nth, answer)
     if front is None:
         return say_verdict(answer, source, asked)
+    if asked.unlocks:
+        return say_unlocks(program, front, asked)
     what, found = ("pages", stale.pages_found(program, front)) if asked.pages else ("places", stale.places_found(program, front))
     left = None if asked.pages else stale.left_found(program, front)
     emit(stale.as_json(front, what, found, asked.log, left) if asked.format
          else stale.text_of(front, what, found, style_of(sys.stdout), left))
+    return Status.REFUSED if found else Status.ACCEPTED
+
+
+def say_unlocks(program: Program, front: Front, asked: Asked) -> int:
+    from why.asking.unlocks import held_at_unlocks
+    from why.telling import unlocked
+    from why.telling.style import style_of
+
+    found = held_at_unlocks(program, front)
+    emit(unlocked.as_json(front, found, asked.log) if asked.format else unlocked.text_of(front, found, style_of(sys.stdout)))
     return Status.REFUSED if found else Status.ACCEPTED
 
 

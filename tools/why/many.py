@@ -36,11 +36,17 @@ class Many:
     folder: TemporaryDirectory = field(default_factory=TemporaryDirectory)
     lock: RLock = field(default_factory=RLock)
     is_ended: bool = False
+    unanswered: list[str] = field(default_factory=list)
 
     def words(self, count: int) -> list[str]:
         """What the script is given for the log of this position."""
-        own = {**self.options, **({"write-known": f"{self.folder.name}/{count}"} if "write-known" in self.options else {})}
-        return ["sh", self.script, "--quiet", self.word, *(f"--{name}={value}" for name, value in own.items() if name != "jobs"), "--", self.logs[count]]
+        own = {name: f"{self.folder.name}/{count}.known" if name == "write-known" else value for name, value in self.options.items() if name != "jobs"}
+        options = (f"--{name}={value}" if value else f"--{name}" for name, value in own.items())
+        return ["sh", self.script, "--quiet", self.word, *options, "--", self.logs[count]]
+
+    def part(self, count: int) -> str:
+        """The file for the part of the page for the log of this position."""
+        return f"{self.folder.name}/{count}.part"
 
     def answer(self, count: int) -> tuple[int, str, bytes]:
         """The status for one log, and what goes to standard output and error."""
@@ -48,7 +54,7 @@ class Many:
         with self.lock:
             if self.is_ended:
                 return Status.UNABLE, "", b""
-            run = subprocess.Popen(self.words(count), stdin=log, stdout=subprocess.PIPE, stderr=subprocess.PIPE)
+            run = subprocess.Popen(self.words(count), stdin=log, stdout=subprocess.PIPE, stderr=subprocess.PIPE, env={**os.environ, "BBM_PAGE": self.part(count)})
             self.running.add(run)
         with run:
             text, told = run.communicate()
@@ -83,6 +89,7 @@ class Many:
                 self.stop()
                 raise
             self.write_known()
+            self.write_page()
         return greatest
 
     def tell_all(self, answers: Iterable[tuple[int, str, bytes]]) -> int:
@@ -92,8 +99,9 @@ class Many:
             with contextlib.suppress(OSError):
                 os.write(2, told)
             greatest = max(greatest, status)
+            self.unanswered.append(why_of(told, status) if status not in JUDGED else "")
             if form and status not in JUDGED and not text:
-                text = unread(why_of(told, status), log, form)
+                text = unread(self.unanswered[-1], log, form)
             if form == "sarif":
                 results.append(json.loads(text))
                 continue
@@ -110,16 +118,30 @@ class Many:
         """A text begins with the name of its log, where its form hasn't it and there are several."""
         return text if form or len(self.logs) == 1 else f"{log}: {text or chr(10)}"
 
+    def read(self, name: str) -> str:
+        """What a run wrote to a file of the folder; nothing where it wrote none."""
+        try:
+            with open(f"{self.folder.name}/{name}", encoding="utf-8", errors="surrogateescape") as file:
+                return file.read()
+        except FileNotFoundError:
+            return ""
+
     def write_known(self) -> None:
         """Joins the files that the runs wrote."""
         path = self.options.get("write-known")
         if path:
-            files.write(path, known.joined(map(self.read, sorted(os.listdir(self.folder.name), key=int))))
+            files.write(path, known.joined(self.read(f"{count}.known") for count in range(len(self.logs))))
 
-    def read(self, name: str) -> str:
-        """What a run wrote to a file of the folder."""
-        with open(f"{self.folder.name}/{name}", encoding="utf-8", errors="surrogateescape") as file:
-            return file.read()
+    def write_page(self) -> None:
+        """Makes the page of the parts that the runs wrote, and says of which logs there is none."""
+        if "html" not in self.options:
+            return
+        from why.telling import page
+
+        texts = (self.read(os.path.basename(self.part(count))) for count in range(len(self.logs)))
+        parts = [json.loads(text) if text and not why else page.unread(log, why or "its part of the page is missing")
+                 for log, text, why in zip(self.logs, texts, self.unanswered)]
+        files.write(self.options["html"], page.page(parts))
 
 
 def why_of(told: bytes, status: int) -> str:
@@ -132,5 +154,5 @@ def run(script: str, word: str, *items: str) -> int:
     """The greatest status of the script's runs. Behind `--` stand the logs."""
     sys.stdout.reconfigure(encoding="utf-8", errors="surrogateescape")
     at = items.index("--")
-    options = dict(item.removeprefix("--").split("=", 1) for item in items[:at])
+    options = {name: value for name, _, value in (item.removeprefix("--").partition("=") for item in items[:at])}
     return Many(script, word, options, [*items[at + 1:]]).tell()

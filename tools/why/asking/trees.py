@@ -74,9 +74,10 @@ class Trees:
         if self.written is not None:
             self.written[at] = spot
         if spot and event.next_page is not None and spot.level < LAST_LEVEL:
-            self.link(event.next_page >> PAGE, spot)
+            self.link(event.next_page >> PAGE, spot, event.place)
 
-    def link(self, page: int, above: Spot) -> None:
+    def link(self, page: int, above: Spot, _place: int) -> None:
+        """A page hangs at a place that translates this."""
         self.attach(page, Spot(above.kind, above.level + 1, above.address, above.root, above.lock))
 
     def attach(self, page: int, spot: Spot) -> None:
@@ -86,7 +87,7 @@ class Trees:
         table = self.tables.pages.get(page)
         for inside, value in enumerate(table.values if table and spot.level < LAST_LEVEL else ()):
             if value & 3 == 3:
-                self.link((value & ADDRESS_BITS) >> PAGE, self.inside(spot, inside))
+                self.link((value & ADDRESS_BITS) >> PAGE, self.inside(spot, inside), page << PAGE | inside << 3)
 
     def load(self, event: Event) -> None:
         """A register write: the tags under which its root may be read."""

@@ -16,7 +16,7 @@ from why.repairs.changes import Drop, Edit, Move, Put
 from why.repairs.premises import PREMISES, Premise, under
 from why.repairs.strictness import LINK
 from why.repairs.study import Repair, Study, positions
-from why.telling import lanes
+from why.telling import decoded, lanes
 from why.telling.edits import Teller
 from why.telling.faults import fault_of, plain
 from why.telling.formats import Finding, finding_of
@@ -67,7 +67,7 @@ def views_of(study: Study, whole: bool) -> Views:
     lines = study.small if whole or told is None else told.lines
     if whole and study.refusal.line <= TOO_MANY:
         lines = study.log.lines(range(2, study.refusal.line + 1))
-    chart = lanes.chart_of(study.program, study.header, lines, study.refusal, next(iter(study.scene.places), None))
+    chart = decoded.marked(lanes.chart_of(study.program, study.header, lines, study.refusal, next(iter(study.scene.places), None)), study.log)
     if told and lines is told.lines:
         chart.entries = told.lives()
     return Views(told, no_run, chart if whole else chart.folded(positions(study.repairs)))
@@ -158,7 +158,7 @@ class Parts:
 
 
 def text_of(answer: Answer, parts: Parts) -> str:
-    shown = [[answer.first], parts.small(), parts.held(), parts.repairs(), parts.premise(), parts.stricter(), parts.run(),
+    shown = [[answer.first], parts.small(), parts.held(), decoded.part(parts), parts.repairs(), parts.premise(), parts.stricter(), parts.run(),
              parts.lanes(), parts.rule()]
     return "\n\n".join("\n".join(part) for part in shown if part) + "\n"
 

@@ -3,19 +3,24 @@
 from __future__ import annotations
 
 import json
+from collections.abc import Sequence
 from dataclasses import dataclass, field
 from functools import cached_property
 
-from why.asking.program import Answer, Verdict
+from why.asking.program import Verdict
+from why.asking.unlocks import Unlock
 from why.log.lines import Log
-from why.repairs.changes import Change
+from why.repairs.changes import Change, Put
 from why.repairs.findings import Findings, Found, Stop
 from why.repairs.sites import Cause
 from why.telling import formats, sarif
 from why.telling.answer import edit_of
+from why.telling.decoded import texts_of
 from why.telling.edits import Teller
 from why.telling.formats import Finding
 from why.telling.known import Deviation, Met, met
+from why.telling.unlocked import fields as unlock_fields
+from why.telling.unlocked import said
 
 
 def changes(count: int) -> str:
@@ -35,6 +40,7 @@ class Item:
     cause: Finding | None = None
     times: int = 1
     fields: dict = field(default_factory=dict)
+    decoded: list[str] = field(default_factory=list)
     change: Change | None = None
     known: Deviation | None = None
     found: object = None
@@ -57,7 +63,7 @@ class Item:
     def lines(self) -> list[str]:
         """The texts, each for a line."""
         comment = [f"known: {self.known}"] if self.known else []
-        return [text for text in (*comment, self.before, self.often, *self.texts) if text]
+        return [text for text in (*comment, self.before, self.often, *self.decoded, *self.texts) if text]
 
 
 def cause_of(cause: Cause | None, log: str) -> Finding | None:
@@ -70,8 +76,9 @@ class Report:
     """What was found of one log, whose name is empty where it has none; which findings are known, and the lines of the file of
     known deviations that none of them meets, where these are told."""
 
-    def __init__(self, log: Log, name: str, findings: Findings, deviations: list[Deviation], path: str = ""):
-        self.name, self.findings, self.path, self.deviations = name, findings, path, deviations
+    def __init__(self, log: Log, name: str, findings: Findings, deviations: list[Deviation], path: str = "",
+                 unlocks: Sequence[Unlock] = ()):
+        self.name, self.findings, self.path, self.unlocks = name, findings, path, unlocks
         self.found, self.last, self.teller = findings.found, findings.last, Teller(log)
         for item in self.items:
             item.known = met(deviations, item.met)
@@ -80,7 +87,27 @@ class Report:
 
     @cached_property
     def items(self) -> list[Item]:
-        return [self.item(count, one) for count, one in enumerate(self.found)]
+        items = [self.item(count, one) for count, one in enumerate(self.found)]
+        self.decode(items)
+        return items + [self.unlocked(count, one) for count, one in enumerate(self.unlocks, len(items) + 1)]
+
+    def decode(self, items: list[Item]) -> None:
+        """Says of each finding what its line names, and those that its change alters."""
+        lines = [[item.finding.verdict.line, *(edit.at for edit in item.change.edits if not isinstance(edit, Put) and edit.at > 1)] if item.change
+                 else [item.finding.verdict.line] for item in items]
+        wanted = {at: item.finding.verdict.at for item, of in zip(items, lines) for at in of}
+        told = texts_of(self.teller.log, wanted)
+        for item, of in zip(items, lines):
+            item.decoded = [told[at] for at in dict.fromkeys(of) if at in told]
+            item.fields["decoded"] = item.decoded
+
+    def unlocked(self, count: int, one: Unlock) -> Item:
+        """What is shown of a place that is held where a lock is given back."""
+        name = f"lock {one.lock} is given back before the flush of {hex(one.place)} is answered"
+        finding = formats.of_verdict(Verdict(formats.UNLOCKED, line=one.line, name=name, at=one.place, label=one.label), self.name)
+        cause = formats.of_verdict(Verdict("cause", line=one.cleared, name="the place is cleared", label=one.cleared_label), self.name)
+        return Item(finding, Met(formats.UNLOCKED, one.label, one.place, one.line, one.cleared_label), [said(one)], changes(len(self.found)), cause,
+                    fields={"finding": count, **unlock_fields(one)})
 
     def item(self, count: int, one: Found) -> Item:
         """What is shown of a refusal with its change."""
@@ -92,7 +119,7 @@ class Report:
         where = {"cause": {"line": one.cause.at, "word": one.cause.word, **cause.source}} if cause else {}
         fields = {"finding": count + 1, "times": one.times, **where, "repair": repair}
         return Item(formats.of_verdict(refusal, self.name), Met(str(refusal.rule), refusal.label, refusal.at, refusal.line, cause.verdict.label if cause else ""),
-                    texts, changes(count), cause, one.times, fields, one.repair and one.repair.change, found=one)
+                    texts, changes(count), cause, one.times, fields, change=one.repair and one.repair.change, found=one)
 
     @property
     def status(self) -> int:
@@ -115,7 +142,8 @@ class Report:
         return "".join(f"{line}\n" for line in (*lines, f"findings {len(self.items)}{f', {count} known' * bool(count)}: {self.end()}"))
 
     def first(self, item: Item) -> str:
-        return item.found.answer.first
+        verdict = item.finding.verdict
+        return item.found.answer.first if item.found else f"unlocked line {verdict.line} at {hex(verdict.at)}" + (f" @{verdict.label}" if verdict.label else "")
 
     # ---- forms
 

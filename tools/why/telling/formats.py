@@ -43,6 +43,8 @@ class Finding:
             told = {"events": verdict.events}
         elif verdict.word in (UNREADABLE, STOPPED):
             told = {**({"line": verdict.line} if verdict.line else {}), "why": verdict.name, **self.source}
+        elif verdict.word == UNLOCKED:
+            told = {"line": verdict.line, "name": verdict.name, "at": hex(verdict.at), **self.source}
         elif verdict.word == "refused":
             told = {"line": verdict.line, "rule": verdict.number, "name": verdict.name, "at": hex(verdict.at), **self.source}
         else:

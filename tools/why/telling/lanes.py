@@ -24,6 +24,7 @@ class Effect(Enum):
 
     PUBLISHED = "p"
     REACHED = "t"
+    ASIDE = "o"
     HALF = "h"
     GONE = "x"
 
@@ -168,6 +169,7 @@ LEGEND = {"live": "the value is there", "broken": "it is cleared, and that isn't
           "half": "stage 2 entries are gone, combined ones may live on", "cleansed": "no old entry is left"}
 ALIKE = "behind this row the refused line would be refused too"
 EFFECTS = {Effect.PUBLISHED: "the clear is published to this PE", Effect.REACHED: "the TLBI reaches this PE",
+           Effect.ASIDE: "the TLBI reaches this PE, and is about another tag or address",
            Effect.HALF: "the first step is complete here", Effect.GONE: "the flush is complete here: the old entry is gone"}
 
 
