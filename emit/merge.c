@@ -818,7 +818,7 @@ int main(int argc, char **argv)
 	if (count < 1)
 		usage();
 	if (!read_header(argv[first]))
-		end_with(WRONG_WORDS, "\"%s\" is no header of a log (docs/FORMAT.md)", argv[first]);
+		end_with(WRONG_WORDS, "\"%s\" is no header of a log (docs/FORMAT.md); in versions 2 to 4 it ends with cnp or -", argv[first]);
 	dumps = grown(NULL, (size_t)count * sizeof *dumps);
 	for (i = 0; i < count; i++)
 		open_dump(&dumps[i], argv[first + 1 + i]);

@@ -109,7 +109,8 @@ class Options(Case):
     def test_refused(self):
         forms = {"check": "[LOG..] [--jobs N] [--format gcc|github|json]", "slow": "[LOG..]", "partial": "[LOG..]", "shrink": "[LOG..] [--least] [--rename]",
                  "why": "[LOG..] [--svg FILE] [--html FILE] [--whole] [--format json]", "walk": "KIND ROOT ADDR [LOG..]", "gen": "N COUNT",
-                 "findings": "[LOG..] [--jobs N] [--most N] [--known FILE] [--write-known FILE] [--format gcc|github|json|sarif]", "pending": "[LOG..] [--pages] [--at LABEL] [--nth N] [--format json]"}
+                 "findings": "[LOG..] [--jobs N] [--most N] [--known FILE] [--write-known FILE] [--html FILE] [--unlocks] [--format gcc|github|json|sarif]",
+                 "pending": "[LOG..] [--pages] [--unlocks] [--at LABEL] [--nth N] [--format json]"}
         for words, told in (
             ("check --format xml", "--format xml: it may be gcc|github|json"), ("check --format", "--format needs a value"),
             ("check --format= log", "--format needs a value"), ("why --format gcc log", "--format gcc: it may be json"), ("findings --most 0", "--most 0: it may be a number from 1"),
@@ -118,7 +119,7 @@ class Options(Case):
             ("why --who log", "why takes no --who"), ("why -x", "why takes no -x"), ("pending --page", "pending takes no --page"), ("pending --at ''", "--at needs a value"),
             ("pending --at", "--at needs a value"), ("pending --nth 2 log", "--nth is for the lines that --at names"), ("pending --at a --nth 0", "--nth 0: it may be a number from 1"),
             ("pending --at a --nth x", "--nth x: it may be a number from 1"), ("shrink --least=yes", "--least takes no value"), ("partial --pages", "partial takes no --pages"),
-            ("why log log --svg x", "--svg is for one log"), ("why --html x log log", "--html is for one log"), ("walk el2 --x", "walk takes no --x"), ("gen 1 --quick", "gen takes no --quick"),
+            ("why log log --svg x", "--svg is for one log"), ("why --html x log log", "--html is for one log"), ("pending --pages --unlocks", "--pages and --unlocks are two questions"), ("walk el2 --x", "walk takes no --x"), ("gen 1 --quick", "gen takes no --quick"),
         ):
             self.ask((f"bbm {words}", f"usage: bbm {words.split()[0]} {forms[words.split()[0]]}", f"bbm: {told}", 3))
 
@@ -152,7 +153,7 @@ class Options(Case):
         self.ask(*((f"bbm {word} --format {form} no", said, name, 70) for word, form, said in (
             ("check", "gcc", "no: error: there is no file no [bbm unreadable]"), ("check", "github", "::error file=no,title=bbm unreadable::there is no file no"),
             *((word, "json", '{"verdict": "unreadable", "why": "there is no file no", "log": "no"}') for word in ("check", "why", "findings", "pending")),
-            ("findings", "sarif", '{"$schema": ..."results": [{"ruleId": "bbm unreadable", ..."uri": "no"}}}]}]}]}'))),
+            ("findings", "sarif", '{"$schema": ..."executionSuccessful": false, ..."results": [{"ruleId": "bbm unreadable", ..."uri": "no"}}}]...'))),
             ("bbm why --format json log no log", f'{NAMED}, "log": "log"}}\n{{"verdict": "unreadable", "why": "there is no file no", "log": "no"}}\n{NAMED}, "log": "log"}}', name, 70),
             ("bbm findings --format sarif log no log no | python3 -c 'import json, sys; print(len(json.load(sys.stdin)[\"runs\"][0][\"results\"]))'", "2", f"{name}\n{name}"))
 
@@ -314,7 +315,7 @@ class Proof(Case):
         unbuilt = "rm -rf copy/out copy/crates/bbm_cli/out tried; touch wait; (until [ -e tried ]; do sleep 0.1; done; sleep 2; rm wait) & "
         self.env["RT"] = ""
         self.write("bin/rt", RT.replace("cat; sed 's/^/status=/' /dev/null; ", "cat >\"$ROOM/given\"; "))
-        for words, log in (("check log", "check"), ("check <log", "check"), ("walk el2 0x0 0x8 log", "walk el2 0x0 0x8")):
+        for words, log in (("check log", "check"), ("check <log", "check"), ("check - <log", "check"), ("walk el2 0x0 0x8 log", "walk el2 0x0 0x8")):
             self.ask((f"{unbuilt} bbm {words}; cat tried; cmp given log", f"{ACCEPTED}\n{log}", first.format(ACCEPTED)))
         self.ask((f"{unbuilt} UNPROVED='refused line 2 ..' UNPROVED_ENDS=1 bbm check log", ACCEPTED, first.format("refused line 2 ..") + "\nbbm: ATTENTION: the unproved program said: refused"
                   f" line 2 ..\nbbm: ATTENTION: the proved program says:   {ACCEPTED}\nbbm: ATTENTION: .."))

@@ -176,6 +176,16 @@ def say_line(program: Program, source: Source, words: list[str]) -> int:
     return Status.ACCEPTED
 
 
+def say_rule(name: str = "") -> int:
+    """A rule, by its number or name, or which there are; a status of usage where there is none."""
+    from why.telling.rules import explained
+    from why.telling.style import style_of
+
+    text = explained(name, style_of(sys.stdout))
+    emit(text)
+    return Status.ACCEPTED if text else Status.USAGE
+
+
 COMMANDS = {"check": say_check, "why": say_why, "findings": say_findings, "shrink": say_shrink, "pending": say_pending, "partial": say_partial}
 
 
@@ -188,8 +198,10 @@ def run(word: str, *items: str) -> int:
     sys.stdout.reconfigure(errors="surrogateescape")
     options = [item for item in items if item.startswith("--")]
     asked = asked_of(options)
+    if word == "rule":
+        return say_rule(*(item for item in items if item not in options))
     if word == "unread":
-        from why.telling.findings import unread
+        from why.telling.sarif import unread
 
         emit(unread(items[0], asked.log, asked.format))
         return Status.UNABLE

@@ -16,8 +16,6 @@ from tempfile import TemporaryDirectory
 from threading import RLock
 
 from why.asking.program import Status, emit
-from why.telling import files, known, sarif
-from why.telling.findings import unread
 
 LINE = re.compile(r"[^\n]*\n|[^\n]+")
 UNMET = re.compile(r"unmet line \d+ of .*|.*: note: no finding meets .* \[bbm\]|::notice .*title=bbm::no finding meets .*|\{\"verdict\": \"unmet\".*")
@@ -101,6 +99,8 @@ class Many:
             greatest = max(greatest, status)
             self.unanswered.append(why_of(told, status) if status not in JUDGED else "")
             if form and status not in JUDGED and not text:
+                from why.telling.sarif import unread
+
                 text = unread(self.unanswered[-1], log, form)
             if form == "sarif":
                 results.append(json.loads(text))
@@ -111,7 +111,12 @@ class Many:
                 unmet = alone if unmet is None else [line for line in unmet if line in alone]
             if lines or status != Status.UNABLE:
                 emit(self.named(log, "".join(line for line in lines if line not in alone), form))
-        emit(sarif.joined(results) if form == "sarif" else "".join(unmet or []))
+        if form == "sarif":
+            from why.telling import sarif
+
+            emit(sarif.joined(results))
+        else:
+            emit("".join(unmet or []))
         return greatest
 
     def named(self, log: str, text: str, form: str) -> str:
@@ -130,13 +135,15 @@ class Many:
         """Joins the files that the runs wrote."""
         path = self.options.get("write-known")
         if path:
+            from why.telling import files, known
+
             files.write(path, known.joined(self.read(f"{count}.known") for count in range(len(self.logs))))
 
     def write_page(self) -> None:
         """Makes the page of the parts that the runs wrote, and says of which logs there is none."""
         if "html" not in self.options:
             return
-        from why.telling import page
+        from why.telling import files, page
 
         texts = (self.read(os.path.basename(self.part(count))) for count in range(len(self.logs)))
         parts = [json.loads(text) if text and not why else page.unread(log, why or "its part of the page is missing")

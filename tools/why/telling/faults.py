@@ -193,6 +193,8 @@ def fault_of(verdict: Verdict, source: Source, word: str = "check") -> str | Non
         # (machine lines and claims count in their own way)
         return None
     if verdict.name == "NoEnd":
+        if not line and verdict.line == 1:
+            return "the log is empty"
         what = f"line {verdict.line} is cut" if line else f"the log ends behind line {verdict.line - 1}"
         return f"{what}, without an `end` line" + ("" if word == "partial" else ": bbm partial judges what is there")
     if verdict.name == "WrongCount":

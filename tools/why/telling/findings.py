@@ -194,12 +194,4 @@ class Report:
         return sarif.text_of(results, [sarif.notification_of(finding, note) for finding, note in ends])
 
 
-def unread(why: str, name: str, form: str) -> str:
-    """What is told of a log that can't be read, or has no answer, in each form."""
-    finding = Finding(Verdict(formats.UNREADABLE, name=why), name)
-    if form in formats.FORMS:
-        return formats.FORMS[form](finding) + "\n"
-    return sarif.text_of([sarif.result_of(finding)], [sarif.notification_of(finding)])
-
-
 FORMS = {"": Report.text, "gcc": Report.gcc, "github": Report.github, "json": Report.json, "sarif": Report.sarif}

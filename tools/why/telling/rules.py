@@ -3,9 +3,11 @@
 from __future__ import annotations
 
 import re
+import textwrap
 from dataclasses import dataclass
 
 from why.asking.program import TOP
+from why.telling.style import BOLD, Style
 
 RULES, FORMAT = f"{TOP}/docs/RULES.md", f"{TOP}/docs/FORMAT.md"
 
@@ -47,3 +49,29 @@ def cause_of_number(number: int) -> str | None:
     """The same, by the number of the cause."""
     found = re.search(rf"^\| {number} (\w+) \|", read(FORMAT), re.M)
     return cause_of(found[1]) if found else None
+
+
+# ---- a rule by itself
+
+ROW = re.compile(r"^\| \[(\d+)\]\([^)]*\) \| (\S+) \| (.*) \| .* \|$", re.M)
+
+
+def wrapped(text: str, style: Style) -> str:
+    """A paragraph, or a point of a list, as wide as the style says."""
+    mark, later = ("- ", "  ") if text.startswith("- ") else ("", "")
+    return textwrap.fill(text.removeprefix("- "), style.width, initial_indent=mark, subsequent_indent=later, break_long_words=False, break_on_hyphens=False)
+
+
+def explained(name: str, style: Style) -> str:
+    """The section on a rule, by its number or name; without one a line for each rule, and nothing where there is no such rule."""
+    page = read(RULES)
+    rows = ROW.findall(page)
+    if not name:
+        return "".join(f"{number:>2} {style.painted(named, BOLD)}: {plain(what)}\n" for number, named, what in rows)
+    wanted = next((number for number, named, _ in rows if name in (number, named)), None)
+    section = wanted and re.search(rf"^### {wanted} .*?(?=^###? |\Z)", page, re.M | re.S)
+    if not section:
+        return ""
+    head, *lines = section[0].strip().split("\n")
+    texts = [plain(line).replace("**", "") for line in lines if line]
+    return "\n".join([style.painted(f"rule {head.removeprefix('### ')}", BOLD), "", *(wrapped(text, style) for text in texts)]) + "\n"

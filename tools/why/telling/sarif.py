@@ -9,7 +9,7 @@ import re
 import subprocess
 from urllib.parse import quote
 
-from why.asking.program import TOP
+from why.asking.program import TOP, Verdict
 from why.repairs.changes import Drop, Edit, Move, Put, Swap
 from why.telling import formats
 from why.telling.formats import Finding
@@ -144,3 +144,9 @@ def joined(logs: list[dict]) -> str:
     runs = [log["runs"][0] for log in logs]
     notes = [note for run in runs for note in run["invocations"][0]["toolExecutionNotifications"]]
     return text_of([result for run in runs for result in run["results"]], notes) if runs else ""
+
+
+def unread(why: str, name: str, form: str) -> str:
+    """What is told of a log that can't be read, or has no answer, in each form."""
+    finding = Finding(Verdict(formats.UNREADABLE, name=why), name)
+    return formats.FORMS[form](finding) + "\n" if form in formats.FORMS else text_of([result_of(finding)], [notification_of(finding)])
