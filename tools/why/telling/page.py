@@ -9,6 +9,7 @@ from __future__ import annotations
 
 import json
 import os
+import re
 from collections.abc import Iterable
 from dataclasses import replace
 from html import escape
@@ -87,8 +88,14 @@ def source_of(finding: formats.Finding, what: str) -> str:
     return f'<h3>{what}: {text(finding.file)}</h3>\n<pre class="source" tabindex="0">' + "\n".join(rows) + "</pre>\n"
 
 
+def coded(words: str) -> str:
+    """A text in which what stands between backticks is code."""
+    return re.sub("`([^`]*)`", r"<code>\1</code>", text(words))
+
+
 def listed(texts: Iterable[str]) -> str:
-    return "<ul>" + "".join(f"<li>{text(one)}</li>" for one in texts) + "</ul>\n" if texts else ""
+    items = "".join(f"<li>{coded(one)}</li>" for one in texts)
+    return f"<ul>{items}</ul>\n" if items else ""
 
 
 def body_of(item: Item, log: Log) -> str:
@@ -169,6 +176,7 @@ td{display:flex;gap:.6rem;border:0;padding:.12rem 0}td::before{content:attr(data
 @media print{.tools{display:none}}
 """
 SCRIPT = """
+{
 const all = [...document.querySelectorAll("details")], rows = [...document.querySelectorAll("tbody tr")], shown = document.getElementById("shown");
 const texts = all.map((one, i) => (one.textContent + " " + rows[i].textContent).toLowerCase());
 function search(words) {
@@ -193,6 +201,7 @@ window.addEventListener("hashchange", follow);
 window.addEventListener("beforeprint", () => fold(true));
 document.querySelector(".tools").hidden = all.length === 0;
 follow();
+}
 """
 # Nothing is loaded from anywhere.
 POLICY = "default-src 'none'; style-src 'unsafe-inline'; script-src 'unsafe-inline'"
