@@ -313,8 +313,13 @@ found.width = innerWidth;
 found.wide = document.documentElement.scrollWidth > innerWidth;
 found.paper = getComputedStyle(document.body).backgroundColor;
 found.shown = document.querySelector("svg").getBoundingClientRect().width > 100 && document.querySelector("svg").getBoundingClientRect().height > 100;
-document.body.innerHTML = "FOUND" + JSON.stringify(found) + "END";
+parent.postMessage(JSON.stringify(found), "*");
 }
+"""
+# A window has a least width, and a frame in it none.
+WINDOW = """<!DOCTYPE html><meta charset="utf-8"><body><script>
+addEventListener("message", event => { document.body.textContent = "FOUND" + event.data + "END"; });
+</script><iframe src="read.html" width="%d" height="900" style="border:0"></iframe></body>
 """
 
 
@@ -322,8 +327,9 @@ def in_browser(chromium, folder, width, theme):
     """What a reader finds on the page of a folder in a browser without a network, in the dark or the light."""
     page = pathlib.Path(folder, "page.html").read_text()
     pathlib.Path(folder, "read.html").write_text(page.replace("</body>", f"<script>{READER}</script></body>"))
-    words = ["--headless=new", "--no-sandbox", "--disable-gpu", "--host-resolver-rules=MAP * ~NOTFOUND", f"--user-data-dir={folder}/browser", f"--window-size={width},900",
-             f"--blink-settings=preferredColorScheme={theme}", "--dump-dom", f"file://{folder}/read.html"]
+    pathlib.Path(folder, "window.html").write_text(WINDOW % width)
+    words = ["--headless=new", "--no-sandbox", "--disable-gpu", "--host-resolver-rules=MAP * ~NOTFOUND", f"--user-data-dir={folder}/browser", "--window-size=1300,1000",
+             f"--blink-settings=preferredColorScheme={theme}", "--virtual-time-budget=10000", "--dump-dom", f"file://{folder}/window.html"]
     done = subprocess.run([chromium, *words], capture_output=True, check=False, timeout=600, text=True)
     said = re.search(r"FOUND(\{.*?\})END", done.stdout)
     return json.loads(said[1].replace("&quot;", '"')) if said else done.stderr[-500:]
