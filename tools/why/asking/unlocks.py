@@ -26,7 +26,7 @@ ATTRIBUTES, BLOCK, LINK = 0xF00, 1, 3
 @dataclass
 class Unlock:
     """A place that was cleared under a lock and the line that gives the lock back; how many bytes stand before that line, which lines
-    ask about the place there, and which line of the log writes at it next. Where it is held the phases, and of how many candidates with
+    ask about the place there, and before which line the run has to end. Where it is held the phases, and of how many candidates with
     the same labels it is the first."""
 
     place: int
@@ -35,6 +35,8 @@ class Unlock:
     cleared_label: str
     line: int
     label: str
+    pe: int
+    old: int
     lock: str
     offset: int
     made: list[bytes]
@@ -55,6 +57,13 @@ class Clear:
     at: int
     label: str
     spot: Spot
+
+
+def is_another_leaf(value: int, old: int, level: int) -> bool:
+    """Whether a value is a leaf with another output than the old value. Then it asks as well as a made one, and the line of the log that
+    writes it may stand behind the question, in the same run: it writes what is there."""
+    is_leaf = value & 3 == (LINK if level == LAST_LEVEL else BLOCK) and (level == LAST_LEVEL or level in WITH_BLOCKS)
+    return is_leaf and bool((value ^ old) & ADDRESS_BITS & -(1 << bits_of(level)))
 
 
 class Unlocks(Trees):
@@ -85,16 +94,16 @@ class Unlocks(Trees):
             for place in [place for place in clears if place >> PAGE == page]:
                 del clears[place]
         for asked in self.asked.pop(page, {}).values():
-            self.end(at, asked)
-
-    def end(self, at: int, asked: list[Unlock]) -> None:
-        """No question about a place may stand in a run with this line."""
-        for one in asked:
-            one.until = min(one.until, at)
+            for one in asked:
+                one.until = min(one.until, at)
 
     def write(self, at: int, event: Event) -> None:
         place, spot, old = event.place, self.spot(event.place), self.last_value(event.place)
-        self.end(at, self.asked[place >> PAGE].pop(place, []))
+        for one in self.asked[place >> PAGE].pop(place, []):
+            if is_another_leaf(event.value, one.old, one.spot.level):
+                one.made = [b"w %d 0x%x 0x%x" % (one.pe, place, event.value)]
+            else:
+                one.until = min(one.until, at)
         super().write(at, event)
         if spot is None or spot.lock is None or spot.lock not in self.tables.locks.held:
             return
@@ -121,7 +130,7 @@ class Unlocks(Trees):
         for place, clear in self.open.pop(event.lock, {}).items():
             if self.is_attached(place):
                 made = [line.encode() for line in self.made(event.pe, place, clear.spot)]
-                new = Unlock(place, clear.spot, clear.at, clear.label, at, event.label, event.lock, self.offset, made)
+                new = Unlock(place, clear.spot, clear.at, clear.label, at, event.label, event.pe, self.last_value(place), event.lock, self.offset, made)
                 self.asked[place >> PAGE][place].append(new)
                 self.found.append(new)
 
