@@ -277,6 +277,12 @@ class Faults(Case):
         for words in ("check --format json", "check --format gcc", "why --format json"):
             self.ask((f"SAYS= bbm {words} log", "", none.format(0, ""), 70), (f"ENDS=1 bbm {words} log", "", none.format(1, ACCEPTED), 70),
                      (f"ENDS=9 bbm {words} log", "", "bbm: the program ended with status 9, so there is no answer", 70))
+        # of several logs none is missing in a form
+        why = "there is no answer; standard error says why"
+        for words in ("", "-j 2 "):
+            self.ask((f"SAYS= ENDS=6 bbm check {words}--format gcc log log", f"log: error: {why} [bbm unreadable]\nlog: error: {why} [bbm unreadable]", "...", 6))
+        self.ask(("SAYS= ENDS=6 bbm findings --format sarif log log | grep -o 'executionSuccessful.: [a-z]*\\|bbm unreadable. *, .level'",
+                  'executionSuccessful": false\nbbm unreadable", "level\nbbm unreadable", "level', "..."))
         self.ask(("ENDS=9 bbm check log", ACCEPTED, "bbm: the program can't be run, or ended with status 9, so there is no answer", 70),
                  ("chmod a-x copy/bbm_cli; bbm check log", "", "...bbm: the program can't be run, or ended with status 12.., so there is no answer", 70),
                  ("bbm why log", "", "bbm: the program can't be run: ..", 70))

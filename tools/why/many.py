@@ -19,6 +19,7 @@ from why.asking.program import Status, emit
 
 LINE = re.compile(r"[^\n]*\n|[^\n]+")
 UNMET = re.compile(r"unmet line \d+ of .*|.*: note: no finding meets .* \[bbm\]|::notice .*title=bbm::no finding meets .*|\{\"verdict\": \"unmet\".*")
+UNANSWERED = "there is no answer; standard error says why"
 JUDGED = (Status.ACCEPTED, Status.REFUSED, Status.MALFORMED, Status.LIMIT)
 
 
@@ -101,7 +102,7 @@ class Many:
             if form and status not in JUDGED and not text:
                 from why.telling.sarif import unread
 
-                text = unread(self.unanswered[-1], log, form)
+                text = unread(UNANSWERED, log, form)
             if form == "sarif":
                 results.append(json.loads(text))
                 continue
