@@ -33,7 +33,7 @@ LOOKS = {
     "live": {"fill": "live"}, "broken": {"fill": "broken"}, "seen": {"fill": "seen"}, "half": {"fill": "half"},
     "cleansed": {"fill": "gone"}, "alike": {"fill": "bad"}, "dot": {"fill": "mark"}, "dot refused": {"fill": "bad"},
     "reach": {"stroke": "mark", "stroke-width": "1.3"}, "tile": {"fill": "paper", "stroke": "mark"},
-    "tile x": {"fill": "paper", "stroke": "gone"}, "entry": {"fill": "none", "stroke": "bad", "stroke-width": "2"},
+    "tile x": {"fill": "paper", "stroke": "gone"}, "tile o": {"fill": "band", "stroke": "bad"}, "entry": {"fill": "none", "stroke": "bad", "stroke-width": "2"},
 }
 # What the letter of an event stands for.
 SIGNS = {"W": "a valid value", "C": "an invalid one", **{letter: word for word, letter in LETTERS.items()}, "X": "refused"}
