@@ -1,6 +1,7 @@
 # SPDX-License-Identifier: Apache-2.0
-"""What the pages of a log's trees translate, as its own words tell it: the kind of the tree, the level, the first input address, the
-root with its lock, and the tags under which registers loaded that. It judges nothing; it names what a line speaks of.
+"""What the pages of a log's trees translate, as its own words tell it: the kind of the tree, the level, the first
+input address, the root with its lock, and the tags under which registers loaded that. It judges nothing; it names
+what a line speaks of.
 """
 from __future__ import annotations
 
@@ -25,7 +26,8 @@ def bits_of(level: int) -> int:
 
 @dataclass(frozen=True)
 class Spot:
-    """What a page of a tree is, or a place in it: the kind, the level, the first input address, the page of the root, and its lock."""
+    """What a page of a tree is, or a place in it: the kind, the level, the first input address, the page of the root,
+    and its lock."""
 
     kind: str
     level: int
@@ -35,7 +37,8 @@ class Spot:
 
 
 class Trees:
-    """The trees of a front part, with all that was in one: a page keeps what it was until it is made zero or linked anew."""
+    """The trees of a front part, with all that was in one: a page keeps what it was until it is made zero or linked
+    anew."""
 
     def __init__(self, front, recorded: bool = False):
         self.header = header_of(front.header)
@@ -67,7 +70,8 @@ class Trees:
         kind, start = event.rest[0], self.header.start_of(event.rest[0])
         upper = (1 << ALL_BITS) - (1 << BITS_OF_START.get(start, 0)) if kind == "ttbr1" else 0
         for number, page in enumerate(self.tables.pages_of_root(kind, event.page)):
-            self.attach(page, Spot(kind, start, upper + (number << BITS_OF_START.get(start, 0)), event.page, event.lock))
+            first = upper + (number << BITS_OF_START.get(start, 0))
+            self.attach(page, Spot(kind, start, first, event.page, event.lock))
 
     def write(self, at: int, event: Event) -> None:
         spot = self.spot(event.place)

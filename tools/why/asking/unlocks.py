@@ -1,10 +1,12 @@
 # SPDX-License-Identifier: Apache-2.0
-"""`pending --unlocks`: the places that a PE cleared under a lock and whose flush isn't answered where it gives that lock back.
+"""`pending --unlocks`: the places that a PE cleared under a lock and whose flush isn't answered where it gives that
+lock back.
 
-The log's writes give the candidates: at each `unlock` the places of the lock's trees that were cleared since the `lock` and have no
-valid value now, each once. Each is asked of the program by a made write right before the `unlock`: one that break-before-make refuses
-says that the place is held. As many as can stand in one run, as `reuses` has it. Of the candidates with the same two labels, that of the
-`unlock` and that of the clear, the first that is held is told.
+The log's writes give the candidates: at each `unlock` the places of the lock's trees that were cleared since the
+`lock` and have no valid value now, each once. Each is asked of the program by a made write right before the `unlock`:
+one that break-before-make refuses says that the place is held. As many as can stand in one run, as `reuses` has it.
+Of the candidates with the same two labels, that of the `unlock` and that of the clear, the first that is held is
+told.
 """
 from __future__ import annotations
 
@@ -25,9 +27,9 @@ ATTRIBUTES, BLOCK, LINK = 0xF00, 1, 3
 
 @dataclass
 class Unlock:
-    """A place that was cleared under a lock and the line that gives the lock back; how many bytes stand before that line, which lines
-    ask about the place there, and before which line the run has to end. Where it is held the phases, and of how many candidates with
-    the same labels it is the first."""
+    """A place that was cleared under a lock and the line that gives the lock back; how many bytes stand before that
+    line, which lines ask about the place there, and before which line the run has to end. Where it is held the
+    phases, and of how many candidates with the same labels it is the first."""
 
     place: int
     spot: Spot
@@ -60,8 +62,8 @@ class Clear:
 
 
 def is_another_leaf(value: int, old: int, level: int) -> bool:
-    """Whether a value is a leaf with another output than the old value. Then it asks as well as a made one, and the line of the log that
-    writes it may stand behind the question, in the same run: it writes what is there."""
+    """Whether a value is a leaf with another output than the old value. Then it asks as well as a made one, and the
+    line of the log that writes it may stand behind the question, in the same run: it writes what is there."""
     is_leaf = value & 3 == (LINK if level == LAST_LEVEL else BLOCK) and (level == LAST_LEVEL or level in WITH_BLOCKS)
     return is_leaf and bool((value ^ old) & ADDRESS_BITS & -(1 << bits_of(level)))
 
@@ -130,7 +132,8 @@ class Unlocks(Trees):
         for place, clear in self.open.pop(event.lock, {}).items():
             if self.is_attached(place):
                 made = [line.encode() for line in self.made(event.pe, place, clear.spot)]
-                new = Unlock(place, clear.spot, clear.at, clear.label, at, event.label, event.pe, self.last_value(place), event.lock, self.offset, made)
+                new = Unlock(place, clear.spot, clear.at, clear.label, at, event.label, event.pe,
+                             self.last_value(place), event.lock, self.offset, made)
                 self.asked[place >> PAGE][place].append(new)
                 self.found.append(new)
 
@@ -144,7 +147,8 @@ class Unlocks(Trees):
     def questions(self) -> list[Unlock]:
         """The candidates, a page for those that link one."""
         for one in self.found:
-            one.made = [line.replace(b"{fresh}", b"0x%x" % self.fresh).replace(b"{link}", b"0x%x" % (self.fresh | LINK)) for line in one.made]
+            pages = {b"{fresh}": b"0x%x" % self.fresh, b"{link}": b"0x%x" % (self.fresh | LINK)}
+            one.made = [b" ".join(pages.get(part, part) for part in line.split(b" ")) for line in one.made]
         return self.found
 
 
@@ -170,7 +174,8 @@ class GroupAsker(Asker):
 
 
 def held_at_unlocks(program: Program, front: Front) -> list[Unlock]:
-    """The places of an accepted log that are held where a lock is given back: of those with the same labels the first."""
+    """The places of an accepted log that are held where a lock is given back: of those with the same labels the
+    first."""
     questions = Unlocks(front).questions()
     often = Counter(one.group for one in questions)
     found = GroupAsker(program, front).found(questions)

@@ -29,8 +29,9 @@ class Stop(Enum):
 
 @dataclass
 class Found:
-    """A refusal of the log with the changes of those before it, and the change that gets past it, where one is found, with where
-    that is made, the change at all lines, and at how many. Lines are those of the log that was given, but for those of the study."""
+    """A refusal of the log with the changes of those before it, and the change that gets past it, where one is found,
+    with where that is made, the change at all lines, and at how many. Lines are those of the log that was given, but
+    for those of the study."""
 
     answer: Answer
     repair: Repair | None
@@ -45,13 +46,15 @@ class Found:
         mine, its = self.answer.refusal, other.answer.refusal
         if not self.cause or not other.cause or not mine.label:
             return False
-        return (mine.rule, mine.label, self.cause.shape, self.repair.change.kinds) == (its.rule, its.label, other.cause.shape, other.repair.change.kinds)
+        is_alike = (mine.rule, mine.label, self.cause.shape) == (its.rule, its.label, other.cause.shape)
+        return is_alike and self.repair.change.kinds == other.repair.change.kinds
 
 
 @dataclass
 class Findings:
-    """The findings in order, and what the program says of the log with the changes of all of them; why it wasn't judged on, where it
-    wasn't; and the log with all changes, with the numbers of its lines in the log that was given."""
+    """The findings in order, and what the program says of the log with the changes of all of them; why it wasn't
+    judged on, where it wasn't; and the log with all changes, with the numbers of its lines in the log that was
+    given."""
 
     found: list[Found]
     last: Answer
@@ -84,8 +87,8 @@ def ended(data: bytes) -> tuple[Log, bytes]:
 
 
 def with_change(log: Log, tail: bytes, change: Change) -> tuple[bytes, list[int]]:
-    """The log as the change leaves it, with its own end, and the numbers of its lines in the log that was given. The count of the
-    `end` line goes with what is put in and left out."""
+    """The log as the change leaves it, with its own end, and the numbers of its lines in the log that was given. The
+    count of the `end` line goes with what is put in and left out."""
     last = log.last_event
     data, numbers = edited(log, range(2, last + 1), change)
     rest = b"\n".join(log.parts[last:]) + tail
@@ -143,8 +146,8 @@ class Searcher:
         return reach_of(self.program.check(data), numbers)
 
     def pass_by(self, answer: Answer) -> Found:
-        """Gets past a refusal by the first change of `why` that can be told by lines of the log that was given, made at all lines that
-        are like its own where the log gets as far so."""
+        """Gets past a refusal by the first change of `why` that can be told by lines of the log that was given, made
+        at all lines that are like its own where the log gets as far so."""
         study, numbers = studied(self.program, self.changed, answer.refusal), self.numbers
         found = Found(told_in_given(answer, numbers), None, study=study, numbers=numbers)
         for repair in study.repairs:

@@ -1,8 +1,10 @@
 # SPDX-License-Identifier: Apache-2.0
-"""Where the source line of a change comes again in a log: one that is wrong in the source is wrong at each line that it logged.
+"""Where the source line of a change comes again in a log: one that is wrong in the source is wrong at each line that
+it logged.
 
-A line goes by its label and word; one without a label by the last labelled line of its PE before it, and the words from there on. What
-a change does at one line is made at each such line by the fields of that one. Whether that is right the program says.
+A line goes by its label and word; one without a label by the last labelled line of its PE before it, and the words
+from there on. What a change does at one line is made at each such line by the fields of that one. Whether that is
+right the program says.
 """
 from __future__ import annotations
 
@@ -108,7 +110,8 @@ class Sites:
     # ---- a change at another line
 
     def at_site(self, change: Change, anchors: list[int], row: list[int]) -> Change:
-        """The change at lines that are like its own; without what stands there already. Fails where it can't be said of them."""
+        """The change at lines that are like its own; without what stands there already. Fails where it can't be said
+        of them."""
         made = [self.edit_at(edit, anchor, site) for edit, anchor, site in zip(change.edits, anchors, row)]
         return Change(tuple(edit for edit in made if edit))
 
@@ -124,7 +127,8 @@ class Sites:
         return replace(edit, after=site, text=self.put(event_of(edit.text), anchor, site))
 
     def behind(self, at: int) -> tuple[str, str] | None:
-        """The word and label of the next line of a line's PE: where that is another one, what is put in may stand there."""
+        """The word and label of the next line of a line's PE: where that is another one, what is put in may stand
+        there."""
         event = next(own(self.log, at, 1, self.log.last_event), (0, None))[1]
         return event and (event.word, event.label)
 
@@ -140,7 +144,8 @@ class Sites:
         return replace(edit, at=site, text=str(Event(here.word, here.pe, rest, here.label)))
 
     def goal(self, edit: Move, site: int) -> int:
-        """Behind which line one is moved: the next line of its PE in that direction which is like the one that it was moved past."""
+        """Behind which line one is moved: the next line of its PE in that direction which is like the one that it was
+        moved past."""
         step = 1 if edit.after > edit.at else -1
         mark = self.log.event(edit.after if step > 0 else edit.after + 1)
         if mark.pe != self.log.event(edit.at).pe:
@@ -180,8 +185,8 @@ class Sites:
 
 
 def field_of(old: str, new: str, here: str) -> str:
-    """What a field becomes at another line: the same word, the same bits of a hint, or a number that is as far away. Where it hasn't
-    that word or those bits it stays."""
+    """What a field becomes at another line: the same word, the same bits of a hint, or a number that is as far away.
+    Where it hasn't that word or those bits it stays."""
     if old == new:
         return here
     if not old.startswith("0x"):
@@ -204,7 +209,8 @@ def cause_of(log: Log, change: Change) -> Cause | None:
 
 
 def everywhere(log: Log, change: Change, own_cause: Cause) -> list[Change]:
-    """The change at each other line that is like its own: a change for each. Where it can't be said of a line that is left out."""
+    """The change at each other line that is like its own: a change for each. Where it can't be said of a line that is
+    left out."""
     sites, anchors = Sites(log), [anchor_of(log, edit) for edit in change.edits]
     shapes = [shape_of(log, anchor) for anchor in anchors]
     pe = log.event(own_cause.at).pe
@@ -218,8 +224,8 @@ def everywhere(log: Log, change: Change, own_cause: Cause) -> list[Change]:
 
 
 def rows_of(sites: Sites, shapes: list[Shape], anchors: list[int], own_cause: Cause) -> Iterator[list[int]]:
-    """For each other line that is like the first the lines of its PE that stand to it as those of the change: the next ones of their
-    shapes."""
+    """For each other line that is like the first the lines of its PE that stand to it as those of the change: the
+    next ones of their shapes."""
     by_pe: list[dict[int, list[int]]] = [defaultdict(list) for _ in shapes]
     for found, shape in zip(by_pe, shapes):
         for at in sites.of_shape(shape):

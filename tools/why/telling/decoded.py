@@ -1,6 +1,7 @@
 # SPDX-License-Identifier: Apache-2.0
-"""What a line names, in words: of a write the address that its place translates, the tag, the level, and what it replaces by what; of a
-TLBI its operand with its hint, and what it covers of a place. It is told by the log's own lines; the program alone judges.
+"""What a line names, in words: of a write the address that its place translates, the tag, the level, and what it
+replaces by what; of a TLBI its operand with its hint, and what it covers of a place. It is told by the log's own
+lines; the program alone judges.
 """
 from __future__ import annotations
 
@@ -74,7 +75,8 @@ class Decoder:
         """What a place translates."""
         if spot is None:
             return "in no tree that the log shows"
-        return f"{ADDRESSES[spot.kind]} {hex(spot.address)}, {tag_told(spot.kind, self.trees.tags.get(spot.root, ()))}, level {spot.level}"
+        tag = tag_told(spot.kind, self.trees.tags.get(spot.root, ()))
+        return f"{ADDRESSES[spot.kind]} {hex(spot.address)}, {tag}, level {spot.level}"
 
     def place(self, place: int) -> str:
         return self.spot(self.trees.spot(place))
@@ -89,7 +91,7 @@ class Decoder:
 
     def tlbi(self, event: Event, place: int | None) -> Told:
         operation = words.base_of(event.operation)
-        parts = [self.operand(event, operation)] if event.operand is not None else [f"all of {self.regime(event, operation)}"]
+        parts = [f"all of {self.regime(event, operation)}" if event.operand is None else self.operand(event, operation)]
         if not words.is_broadcast(event.operation):
             parts.append(f"at PE {event.pe} alone")
         spot = self.trees.spot(place) if place is not None else None
@@ -104,7 +106,8 @@ class Decoder:
 
     def vmid(self, event: Event) -> str:
         vmid = self.trees.tag_of(event.pe)
-        return f"VMID {vmid}, that of PE {event.pe}" if vmid is not None else f"the VMID of PE {event.pe}, which loaded none"
+        pe = f"PE {event.pe}"
+        return f"the VMID of {pe}, which loaded none" if vmid is None else f"VMID {vmid}, that of {pe}"
 
     def operand(self, event: Event, operation: str) -> str:
         """The fields of an operand."""
@@ -135,7 +138,8 @@ class Decoder:
         if spot.kind == "s2" and operation != "alle1":
             vmid = self.trees.tag_of(event.pe)
             return vmid is not None and bool(tags) and vmid not in tags
-        return spot.kind == "ttbr0" and operation in words.BY_ASID and bool(tags) and event.operand >> words.ASID_SHIFT not in tags
+        by_asid = spot.kind == "ttbr0" and operation in words.BY_ASID
+        return by_asid and bool(tags) and event.operand >> words.ASID_SHIFT not in tags
 
     def cover_of_page(self, operand: words.Operand, operation: str, spot: Spot, old: int) -> Cover:
         mask, size = (operand.bits + 1 << words.PAGE_SHIFT) - 1, 1 << bits_of(spot.level)
@@ -144,7 +148,8 @@ class Decoder:
             return Cover.ADDRESS
         if operand.hint is not None and operand.hint != spot.level:
             return Cover.HINT
-        return Cover.LAST_LEVEL if operation in words.LAST_LEVEL and value_told(old, spot.level) == "table" else Cover.WHOLE
+        is_table = value_told(old, spot.level) == "table"
+        return Cover.LAST_LEVEL if is_table and operation in words.LAST_LEVEL else Cover.WHOLE
 
 
 def told_lines(log: Log, wanted: dict[int, int | None]) -> dict[int, Told]:
@@ -170,8 +175,8 @@ def marked(chart: Chart, log: Log) -> Chart:
     """The chart in which a TLBI that has nothing to do with the place looks different from one that has."""
     flushes = {row.line.at: chart.place for row in chart.rows if row.event.word == "tlbi" and chart.place is not None}
     misses = {at for at, one in told_lines(log, flushes).items() if one.cover in MISSES}
-    rows = [replace(row, effects=dict.fromkeys(row.effects, Effect.ASIDE)) if row.line.at in misses else row for row in chart.rows]
-    return replace(chart, rows=rows)
+    aside = lambda row: replace(row, effects=dict.fromkeys(row.effects, Effect.ASIDE))
+    return replace(chart, rows=[aside(row) if row.line.at in misses else row for row in chart.rows])
 
 
 def part(parts) -> list[str]:
@@ -179,5 +184,5 @@ def part(parts) -> list[str]:
     study, place = parts.study, next(iter(parts.study.scene.places), None)
     told = texts_of(study.log, {line.at: place for line in study.small}).values()
     about = f"; the place is {hex(place)}" if place is not None else ""
-    return [parts.head(f"What the lines name{about}"), *(textwrap.fill(text, parts.style.width, initial_indent="  ", subsequent_indent="    ",
-                                                                       break_long_words=False) for text in told)] if told else []
+    how = {"width": parts.style.width, "initial_indent": "  ", "subsequent_indent": "    ", "break_long_words": False}
+    return [parts.head(f"What the lines name{about}"), *(textwrap.fill(text, **how) for text in told)] if told else []

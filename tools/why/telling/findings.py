@@ -25,13 +25,15 @@ from why.telling.unlocked import said
 
 def changes(count: int) -> str:
     """How the changes of so many findings, from the first on, are named."""
-    return "" if not count else "with the change of finding 1" if count == 1 else f"with the changes of findings 1 to {count}"
+    if count < 2:
+        return "with the change of finding 1" * count
+    return f"with the changes of findings 1 to {count}"
 
 
 @dataclass
 class Item:
-    """What is shown of one finding: the line that decides, the texts behind it, where its cause is, at how many lines, what the object
-    of it has besides, and the change of the log, where there is one."""
+    """What is shown of one finding: the line that decides, the texts behind it, where its cause is, at how many
+    lines, what the object of it has besides, and the change of the log, where there is one."""
 
     finding: Finding
     met: Met
@@ -54,6 +56,12 @@ class Item:
         return f"{self.times} times, first at line {self.finding.verdict.line}{by}"
 
     @property
+    def altered(self) -> list[int]:
+        """The lines that its change alters or moves."""
+        edits = self.change.edits if self.change else ()
+        return [edit.at for edit in edits if not isinstance(edit, Put) and edit.at > 1]
+
+    @property
     def note(self) -> str:
         """The texts as one."""
         text = ", ".join(filter(None, (self.before, self.often, *self.texts)))
@@ -73,8 +81,8 @@ def cause_of(cause: Cause | None, log: str) -> Finding | None:
 
 
 class Report:
-    """What was found of one log, whose name is empty where it has none; which findings are known, and the lines of the file of
-    known deviations that none of them meets, where these are told."""
+    """What was found of one log, whose name is empty where it has none; which findings are known, and the lines of
+    the file of known deviations that none of them meets, where these are told."""
 
     def __init__(self, log: Log, name: str, findings: Findings, deviations: list[Deviation], path: str = "",
                  unlocks: Sequence[Unlock] = ()):
@@ -93,8 +101,7 @@ class Report:
 
     def decode(self, items: list[Item]) -> None:
         """Says of each finding what its line names, and those that its change alters."""
-        lines = [[item.finding.verdict.line, *(edit.at for edit in item.change.edits if not isinstance(edit, Put) and edit.at > 1)] if item.change
-                 else [item.finding.verdict.line] for item in items]
+        lines = [[item.finding.verdict.line, *item.altered] for item in items]
         wanted = {at: item.finding.verdict.at for item, of in zip(items, lines) for at in of}
         told = texts_of(self.teller.log, wanted)
         for item, of in zip(items, lines):
@@ -104,22 +111,28 @@ class Report:
     def unlocked(self, count: int, one: Unlock) -> Item:
         """What is shown of a place that is held where a lock is given back."""
         name = f"lock {one.lock} is given back before the flush of {hex(one.place)} is answered"
-        finding = formats.of_verdict(Verdict(formats.UNLOCKED, line=one.line, name=name, at=one.place, label=one.label), self.name)
-        cause = formats.of_verdict(Verdict("cause", line=one.cleared, name="the place is cleared", label=one.cleared_label), self.name)
-        return Item(finding, Met(formats.UNLOCKED, one.label, one.place, one.line, one.cleared_label), [said(one)], changes(len(self.found)), cause,
-                    fields={"finding": count, **unlock_fields(one)})
+        unlock = Verdict(formats.UNLOCKED, line=one.line, name=name, at=one.place, label=one.label)
+        clear = Verdict("cause", line=one.cleared, name="the place is cleared", label=one.cleared_label)
+        known_by = Met(formats.UNLOCKED, one.label, one.place, one.line, one.cleared_label)
+        return Item(formats.of_verdict(unlock, self.name), known_by, [said(one)], changes(len(self.found)),
+                    formats.of_verdict(clear, self.name), fields={"finding": count, **unlock_fields(one)})
 
     def item(self, count: int, one: Found) -> Item:
         """What is shown of a refusal with its change."""
         refusal, cause = one.answer.refusal, cause_of(one.cause, self.name)
-        whole = self.found[count + 1].answer if count + 1 < len(self.found) else self.last
         texts = self.teller.repair(one.repair)[:-1] if one.repair else ["nothing of what is tried gets past it"]
-        repair = {"edits": [edit_of(edit) for edit in one.change.edits], "told": texts, "whole": formats.finding_of(whole).fields} \
-            if one.repair else None
         where = {"cause": {"line": one.cause.at, "word": one.cause.word, **cause.source}} if cause else {}
-        fields = {"finding": count + 1, "times": one.times, **where, "repair": repair}
-        return Item(formats.of_verdict(refusal, self.name), Met(str(refusal.rule), refusal.label, refusal.at, refusal.line, cause.verdict.label if cause else ""),
-                    texts, changes(count), cause, one.times, fields, change=one.repair and one.repair.change, found=one)
+        repair = self.repair(count, one, texts) if one.repair else None
+        known_by = Met(str(refusal.rule), refusal.label, refusal.at, refusal.line, one.cause.label if cause else "")
+        return Item(formats.of_verdict(refusal, self.name), known_by, texts, changes(count), cause, one.times,
+                    {"finding": count + 1, "times": one.times, **where, "repair": repair},
+                    change=one.repair and one.repair.change, found=one)
+
+    def repair(self, count: int, one: Found, texts: list[str]) -> dict:
+        """The change at all lines as an object, with the verdict on the log with the changes up to it."""
+        whole = self.found[count + 1].answer if count + 1 < len(self.found) else self.last
+        return {"edits": [edit_of(edit) for edit in one.change.edits], "told": texts,
+                "whole": formats.finding_of(whole).fields}
 
     @property
     def status(self) -> int:
@@ -130,7 +143,8 @@ class Report:
         """Where it ends, and what the program says there."""
         if self.findings.stop is Stop.NO_CHANGE:
             return f"it stops at line {self.last.line}, and nothing behind that is judged"
-        said = "the whole log is accepted" if self.last.accepted else f"`{self.last.first}`, and nothing behind that is judged"
+        said = f"`{self.last.first}`, and nothing behind that is judged"
+        said = "the whole log is accepted" if self.last.accepted else said
         return " ".join(filter(None, (changes(len(self.found)), said)))
 
     def text(self) -> str:
@@ -138,41 +152,48 @@ class Report:
         for count, item in enumerate(self.items, 1):
             lines += [f"finding {count}: {self.first(item)}", *(f"  {text}" for text in item.lines)]
         lines += [f"unmet line {it.line} of {self.path}: {it}" for it in self.unmet]
-        count = sum(bool(item.known) for item in self.items)
-        return "".join(f"{line}\n" for line in (*lines, f"findings {len(self.items)}{f', {count} known' * bool(count)}: {self.end()}"))
+        known = sum(bool(item.known) for item in self.items)
+        lines.append(f"findings {len(self.items)}{f', {known} known' * bool(known)}: {self.end()}")
+        return "".join(f"{line}\n" for line in lines)
 
     def first(self, item: Item) -> str:
         verdict = item.finding.verdict
-        return item.found.answer.first if item.found else f"unlocked line {verdict.line} at {hex(verdict.at)}" + (f" @{verdict.label}" if verdict.label else "")
+        label = f" @{verdict.label}" if verdict.label else ""
+        return item.found.answer.first if item.found else f"unlocked line {verdict.line} at {hex(verdict.at)}{label}"
 
     # ---- forms
 
     @cached_property
     def ends(self) -> list[tuple[Finding, str]]:
-        """What is shown of the end with its note: that the log is accepted, where there is no finding; a line that can't be judged; or
-        that the search stops."""
+        """What is shown of the end with its note: that the log is accepted, where there is no finding; a line that
+        can't be judged; or that the search stops."""
         if self.findings.stop in (Stop.NO_CHANGE, Stop.MOST):
             why = f"nothing behind this line is judged: {self.findings.stop.value}"
-            return [(formats.of_verdict(Verdict(formats.STOPPED, line=self.last.line, name=why, label=self.last.verdict.label), self.name), "")]
+            stopped = Verdict(formats.STOPPED, line=self.last.line, name=why, label=self.last.verdict.label)
+            return [(formats.of_verdict(stopped, self.name), "")]
         if self.findings.stop or not self.items:
             return [(formats.finding_of(self.last, self.name), changes(len(self.found)))]
         return []
 
     def gcc(self) -> str:
+        note = lambda finding, said: f"{formats.place_of(finding)}: note: {formats.on_a_line(said)} [bbm]"
+        at_cause = lambda cause: note(cause, f"{cause.message}, line {cause.verdict.line} of the log")
         lines = []
         for item in self.items:
-            lines += [formats.gcc(item.finding), f"{formats.place_of(item.finding)}: note: {formats.on_a_line(item.note)} [bbm]"]
-            if item.cause:
-                lines.append(f"{formats.place_of(item.cause)}: note: {item.cause.message}, line {item.cause.verdict.line} of the log [bbm]")
-        for finding, note in self.ends:
-            lines += [formats.gcc(finding), *([f"{formats.place_of(finding)}: note: {note} [bbm]"] if note else [])]
-        lines += [f"{formats.on_a_line(self.path)}:{it.line}: note: no finding meets {formats.on_a_line(str(it))} [bbm]" for it in self.unmet]
+            lines += [formats.gcc(item.finding), note(item.finding, item.note)]
+            lines += [at_cause(item.cause)] if item.cause else []
+        for finding, said in self.ends:
+            lines += [formats.gcc(finding), *([note(finding, said)] if said else [])]
+        path = formats.on_a_line(self.path)
+        lines += [f"{path}:{it.line}: note: no finding meets {formats.on_a_line(str(it))} [bbm]" for it in self.unmet]
         return "".join(f"{line}\n" for line in lines)
 
     def github(self) -> str:
         told = [(item.finding, ", ".join(filter(None, (item.note, self.cause_told(item))))) for item in self.items]
-        lines = [formats.github(finding) + (f": {formats.data(note)}" if note else "") for finding, note in (*told, *self.ends)]
-        lines += [f"::notice file={formats.escaped(self.path)},line={it.line},title=bbm::no finding meets {formats.data(str(it))}" for it in self.unmet]
+        lines = [formats.github(finding) + (f": {formats.data(said)}" if said else "")
+                 for finding, said in (*told, *self.ends)]
+        place = lambda it: f"file={formats.escaped(self.path)},line={it.line}"
+        lines += [f"::notice {place(it)},title=bbm::no finding meets {formats.data(str(it))}" for it in self.unmet]
         return "".join(f"{line}\n" for line in lines)
 
     def cause_told(self, item: Item) -> str:
@@ -180,15 +201,18 @@ class Report:
 
     def objects(self) -> list[dict]:
         """One for each finding, and for what is shown of the end."""
-        objects = [{**item.finding.fields, **item.fields, **({"known": item.known.comment} if item.known else {})} for item in self.items]
+        known = lambda item: {"known": item.known.comment} if item.known else {}
+        objects = [{**item.finding.fields, **item.fields, **known(item)} for item in self.items]
         objects += [finding.fields for finding, _ in self.ends]
-        return objects + [{"verdict": "unmet", "text": str(it), "file": self.path, "file_line": it.line} for it in self.unmet]
+        unmet = lambda it: {"verdict": "unmet", "text": str(it), "file": self.path, "file_line": it.line}
+        return [*objects, *map(unmet, self.unmet)]
 
     def json(self) -> str:
         return "".join(json.dumps(it) + "\n" for it in self.objects())
 
     def sarif(self) -> str:
-        results = [sarif.result_of(item.finding, item.note, item.known, item.cause, item.change and sarif.fix_of(item, self.teller.log)) for item in self.items]
+        fix = lambda item: item.change and sarif.fix_of(item, self.teller.log)
+        results = [sarif.result_of(item.finding, item.note, item.known, item.cause, fix(item)) for item in self.items]
         ends = [(finding, note) for finding, note in self.ends if finding.verdict.line]
         results += [sarif.result_of(finding, note) for finding, note in ends]
         return sarif.text_of(results, [sarif.notification_of(finding, note) for finding, note in ends])

@@ -1,6 +1,6 @@
 # SPDX-License-Identifier: Apache-2.0
-"""Known deviations: a file with a rule and a label or place on each line, and the label of the cause, which findings meet
-(docs/WHY.md)."""
+"""Known deviations: a file with a rule and a label or place on each line, and the label of the cause, which findings
+meet (docs/WHY.md)."""
 from __future__ import annotations
 
 import re
@@ -17,8 +17,8 @@ FORM = re.compile(rf"([0-9]{{1,2}}|unlocked) ({LABEL}|0x[0-9a-f]{{1,16}})(?: ({L
 
 @dataclass(frozen=True)
 class Met:
-    """What a line of the file has to say of a finding: the rule by its number, or a word; the label of the make and its place; and the
-    label of the cause, empty where there is none."""
+    """What a line of the file has to say of a finding: the rule by its number, or a word; the label of the make and
+    its place; and the label of the cause, empty where there is none."""
 
     rule: str
     label: str
@@ -43,7 +43,8 @@ class Deviation:
 
     def meets(self, finding: Met) -> bool:
         """Whether the finding is this one. A line without a cause meets each cause."""
-        return self.rule == finding.rule and self.at in (f"@{finding.label}", hex(finding.place)) and self.cause in ("", f"@{finding.cause}")
+        is_at = self.at in (f"@{finding.label}", hex(finding.place))
+        return self.rule == finding.rule and is_at and self.cause in ("", f"@{finding.cause}")
 
     @property
     def key(self) -> str:
@@ -58,8 +59,8 @@ def deviation_of(path: str, number: int, text: str) -> Deviation:
     """Fails where the line has another form."""
     found = FORM.fullmatch(text)
     if not found:
-        raise Unable(Status.UNABLE, f"{path}: line {number} isn't `RULE @LABEL` or `RULE PLACE`, and `@CAUSE` and `# COMMENT` behind it, so "
-                                    "there is no answer")
+        raise Unable(Status.UNABLE, f"{path}: line {number} isn't `RULE @LABEL` or `RULE PLACE`, and `@CAUSE` and "
+                                    "`# COMMENT` behind it, so there is no answer")
     rule = str(int(found.group(1))) if found.group(1).isdigit() else found.group(1)
     return Deviation(number, rule, *(part or "" for part in found.groups()[1:]))
 
@@ -76,11 +77,13 @@ def met(deviations: Iterable[Deviation], finding: Met) -> Deviation | None:
 
 
 def write(path: str, findings: Iterable[Met], deviations: list[Deviation], log: str) -> None:
-    """A line for each rule at each label, or place where there is no label, by each cause; one that is known stays as it is."""
+    """A line for each rule at each label, or place where there is no label, by each cause; one that is known stays as
+    it is."""
     lines: dict[str, str] = {}
     for finding in findings:
         said = re.sub(r"\s", " ", log) or "the log"
-        new = Deviation(0, finding.rule, finding.at, f"@{finding.cause}" if finding.cause else "", f"line {finding.line} of {said}")
+        cause = f"@{finding.cause}" if finding.cause else ""
+        new = Deviation(0, finding.rule, finding.at, cause, f"line {finding.line} of {said}")
         one = met(deviations, finding) or new
         lines.setdefault(one.key, f"{one}\n")
     files.write(path, "".join(lines.values()))

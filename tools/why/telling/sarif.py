@@ -1,5 +1,6 @@
 # SPDX-License-Identifier: Apache-2.0
-"""A log of SARIF 2.1.0: a result for each finding, with its rule, its cause and its change, and whether all was judged."""
+"""A log of SARIF 2.1.0: a result for each finding, with its rule, its cause and its change, and whether all was
+judged."""
 from __future__ import annotations
 
 import hashlib
@@ -35,26 +36,33 @@ def uri_of(name: str) -> str:
     return quote(os.fsencode(name), safe="/")
 
 
+def artifact_of(name: str) -> dict:
+    return {"uri": uri_of(name or formats.UNNAMED)}
+
+
 def place_of(finding: Finding) -> dict:
     """The file, and its line where one decides."""
     line = finding.file_line or finding.verdict.line
     region = {"region": {"startLine": line}} if line else {}
-    return {"physicalLocation": {"artifactLocation": {"uri": uri_of(finding.file or finding.log or formats.UNNAMED)}, **region}}
+    return {"physicalLocation": {"artifactLocation": artifact_of(finding.file or finding.log), **region}}
 
 
 def message_of(finding: Finding, note: str = "") -> dict:
     line = finding.verdict.line
-    return {"text": shown(finding.message + (f", line {line} of the log" if line else "") + (f": {note}" if note else ""))}
+    parts = (finding.message, f", line {line} of the log" if line else "", f": {note}" if note else "")
+    return {"text": shown("".join(parts))}
 
 
-def result_of(finding: Finding, note: str = "", known: Deviation | None = None, cause: Finding | None = None, fix: dict | None = None) -> dict:
+def result_of(finding: Finding, note: str = "", known: Deviation | None = None, cause: Finding | None = None,
+              fix: dict | None = None) -> dict:
     """A result: of a finding, of a line that can't be judged, or of a log without an answer."""
     more = {"suppressions": [{"kind": "external", "justification": shown(known.comment)}]} if known else {}
     if cause:
         more["relatedLocations"] = [{**place_of(cause), "message": message_of(cause)}]
     if fix:
         more["fixes"] = [fix]
-    return {"ruleId": finding.tag, "level": "note" if known else "error", "message": message_of(finding, note), "locations": [place_of(finding)],
+    return {"ruleId": finding.tag, "level": "note" if known else "error", "message": message_of(finding, note),
+            "locations": [place_of(finding)],
             "partialFingerprints": {FINGERPRINT: fingerprint_of(finding, cause)}, **more}
 
 
@@ -74,28 +82,32 @@ def line_of(at: int) -> dict:
 
 def replacements(edit: Edit, log) -> list[dict]:
     """What an edit replaces in the log: lines by their numbers."""
-    put = lambda after, text: {"deletedRegion": {"startLine": after + 1, "startColumn": 1, "endLine": after + 1, "endColumn": 1},
-                               "insertedContent": {"text": f"{text}\n"}}
+    before = lambda at: {"startLine": at, "startColumn": 1, "endLine": at, "endColumn": 1}
+    put = lambda after, text: {"deletedRegion": before(after + 1), "insertedContent": {"text": f"{text}\n"}}
     if isinstance(edit, Put):
         return [put(edit.after, edit.text)]
     if isinstance(edit, Swap):
         return [{"deletedRegion": line_of(edit.at), "insertedContent": {"text": f"{edit.text}\n"}}]
     gone = {"deletedRegion": line_of(edit.at)}
-    return [gone] if isinstance(edit, Drop) else [gone, put(edit.after, log.line(edit.at).text)] if isinstance(edit, Move) else []
+    if isinstance(edit, Drop):
+        return [gone]
+    return [gone, put(edit.after, log.line(edit.at).text)] if isinstance(edit, Move) else []
 
 
 def fix_of(item, log) -> dict:
-    """The change of a finding, as it is made in the log; its `end` line has to count then what is put in and left out."""
+    """The change of a finding, as it is made in the log; its `end` line has to count then what is put in and left
+    out."""
     made = [one for edit in item.change.edits for one in replacements(edit, log)]
     return {"description": {"text": shown("; ".join(item.texts))},
-            "artifactChanges": [{"artifactLocation": {"uri": uri_of(item.finding.log or formats.UNNAMED)}, "replacements": made}]}
+            "artifactChanges": [{"artifactLocation": artifact_of(item.finding.log), "replacements": made}]}
 
 
 # ---- the whole
 
 def notification_of(finding: Finding, note: str = "") -> dict:
     """That not all was judged."""
-    return {"level": "error", "descriptor": {"id": finding.tag}, "message": message_of(finding, note), "locations": [place_of(finding)]}
+    return {"level": "error", "descriptor": {"id": finding.tag}, "message": message_of(finding, note),
+            "locations": [place_of(finding)]}
 
 
 def rules_of(tags: list[str]) -> list[dict]:
@@ -107,11 +119,13 @@ def rule_for(tag: str) -> dict:
     number = re.fullmatch(r"bbm rule (\d+)", tag)
     rule = rule_of(int(number[1])) if number else None
     if rule:
-        return {"id": tag, "name": rule.name, "shortDescription": {"text": f"rule {rule.number}, {rule.name}"}, "fullDescription": {"text": rule.sentence},
-                "help": {"text": f"The usual bug: {rule.bug}\n\nRight: {rule.right}"}, "defaultConfiguration": {"level": "error"}}
+        return {"id": tag, "name": rule.name, "shortDescription": {"text": f"rule {rule.number}, {rule.name}"},
+                "fullDescription": {"text": rule.sentence}, "defaultConfiguration": {"level": "error"},
+                "help": {"text": f"The usual bug: {rule.bug}\n\nRight: {rule.right}"}}
     cause = re.fullmatch(r"bbm cause (\d+)", tag)
     said = cause_of_number(int(cause[1])) if cause else OTHERS.get(tag)
-    return {"id": tag, **({"shortDescription": {"text": said}} if said else {}), "defaultConfiguration": {"level": "error"}}
+    about = {"shortDescription": {"text": said}} if said else {}
+    return {"id": tag, **about, "defaultConfiguration": {"level": "error"}}
 
 
 def version() -> str:
@@ -132,7 +146,8 @@ def version() -> str:
 def log_of(results: list[dict], notifications: list[dict]) -> dict:
     driver = {"name": "bbm", "version": version(), "rules": rules_of([result["ruleId"] for result in results])}
     invocation = {"executionSuccessful": not notifications, "toolExecutionNotifications": notifications}
-    return {"$schema": SCHEMA, "version": VERSION, "runs": [{"tool": {"driver": driver}, "invocations": [invocation], "results": results}]}
+    run = {"tool": {"driver": driver}, "invocations": [invocation], "results": results}
+    return {"$schema": SCHEMA, "version": VERSION, "runs": [run]}
 
 
 def text_of(results: list[dict], notifications: list[dict]) -> str:
@@ -149,4 +164,6 @@ def joined(logs: list[dict]) -> str:
 def unread(why: str, name: str, form: str) -> str:
     """What is told of a log that can't be read, or has no answer, in each form."""
     finding = Finding(Verdict(formats.UNREADABLE, name=why), name)
-    return formats.FORMS[form](finding) + "\n" if form in formats.FORMS else text_of([result_of(finding)], [notification_of(finding)])
+    if form in formats.FORMS:
+        return formats.FORMS[form](finding) + "\n"
+    return text_of([result_of(finding)], [notification_of(finding)])

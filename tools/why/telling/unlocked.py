@@ -38,28 +38,33 @@ def address_of(spot: Spot) -> str:
 def told(one: Unlock, style: Style) -> str:
     phases = [f"{phase} {ranges(pes)}" for phase, pes in by_phase(one).items()]
     place = f"place {style.painted(hex(one.place), BOLD)} cleared {labelled(one.cleared, one.cleared_label)}"
-    return " ".join([f"unlock {labelled(one.line, one.label)} lock {one.lock}", place, f"alike {one.alike}", *phases]) + "\n"
+    unlock = f"unlock {labelled(one.line, one.label)} lock {one.lock}"
+    return " ".join([unlock, place, f"alike {one.alike}", *phases]) + "\n"
 
 
 def fields(one: Unlock) -> dict:
-    return {"unlock": line_of(one.line, one.label), "lock": int(one.lock), "place": hex(one.place), "decoded": address_of(one.spot),
-            "cleared": line_of(one.cleared, one.cleared_label), "alike": one.alike, "phases": by_phase(one)}
+    return {"unlock": line_of(one.line, one.label), "lock": int(one.lock), "place": hex(one.place),
+            "decoded": address_of(one.spot), "cleared": line_of(one.cleared, one.cleared_label), "alike": one.alike,
+            "phases": by_phase(one)}
 
 
 def text_of(front: Front, found: list[Unlock], style: Style) -> str:
-    return "".join([f"accepted {front.events} events\n", f"pending {len(found)} unlocks\n", *(told(one, style) for one in found)])
+    heads = f"accepted {front.events} events\npending {len(found)} unlocks\n"
+    return heads + "".join(told(one, style) for one in found)
 
 
 def as_json(front: Front, found: list[Unlock], log: str) -> str:
-    return json.dumps({"verdict": "accepted", "events": front.events, "unlocks": [fields(one) for one in found], **({"log": log} if log else {})}) + "\n"
+    named = {"verdict": "accepted", "events": front.events, "unlocks": [fields(one) for one in found]}
+    return json.dumps({**named, **({"log": log} if log else {})}) + "\n"
 
 
 # ---- in findings
 
 def said(one: Unlock) -> str:
     """What is wrong at the `unlock`."""
-    missing = "; ".join(text.format(f"PE {ranges(pes)}") for phase, pes in by_phase(one).items() if (text := UNFLUSHED.get(phase)))
-    return f"cleared by {labelled(one.cleared, one.cleared_label)}, {address_of(one.spot)}: {missing}"
+    phases = by_phase(one)
+    missing = [text.format(f"PE {ranges(phases[phase])}") for phase, text in UNFLUSHED.items() if phase in phases]
+    return f"cleared by {labelled(one.cleared, one.cleared_label)}, {address_of(one.spot)}: {'; '.join(missing)}"
 
 
 def found_in(program: Program, data: bytes, numbers: Numbers) -> list[Unlock]:
