@@ -155,7 +155,8 @@ def say_unlocks(program: Program, front: Front, asked: Asked) -> int:
     from why.telling.style import style_of
 
     found = held_at_unlocks(program, front)
-    emit(unlocked.as_json(front, found, asked.log) if asked.format else unlocked.text_of(front, found, style_of(sys.stdout)))
+    text = unlocked.text_of(front, found, style_of(sys.stdout))
+    emit(unlocked.as_json(front, found, asked.log) if asked.format else text)
     return Status.REFUSED if found else Status.ACCEPTED
 
 

@@ -39,7 +39,9 @@ class Many:
 
     def words(self, count: int) -> list[str]:
         """What the script is given for the log of this position."""
-        own = {name: f"{self.folder.name}/{count}.known" if name == "write-known" else value for name, value in self.options.items() if name != "jobs"}
+        own = {name: value for name, value in self.options.items() if name != "jobs"}
+        if "write-known" in own:
+            own["write-known"] = f"{self.folder.name}/{count}.known"
         options = (f"--{name}={value}" if value else f"--{name}" for name, value in own.items())
         return ["sh", self.script, "--quiet", self.word, *options, "--", self.logs[count]]
 
@@ -53,7 +55,8 @@ class Many:
         with self.lock:
             if self.is_ended:
                 return Status.UNABLE, "", b""
-            run = subprocess.Popen(self.words(count), stdin=log, stdout=subprocess.PIPE, stderr=subprocess.PIPE, env={**os.environ, "BBM_PAGE": self.part(count)})
+            pipes = {"stdin": log, "stdout": subprocess.PIPE, "stderr": subprocess.PIPE}
+            run = subprocess.Popen(self.words(count), **pipes, env={**os.environ, "BBM_PAGE": self.part(count)})
             self.running.add(run)
         with run:
             text, told = run.communicate()
@@ -154,7 +157,8 @@ class Many:
 
 def why_of(told: bytes, status: int) -> str:
     """What a run that gave no answer said last of that."""
-    lines = [line.removeprefix("bbm: ") for line in told.decode("utf-8", "surrogateescape").split("\n") if line.startswith("bbm: ")]
+    lines = told.decode("utf-8", "surrogateescape").split("\n")
+    lines = [line.removeprefix("bbm: ") for line in lines if line.startswith("bbm: ")]
     return lines[-1] if lines else f"the script ended with status {status}, so there is no answer"
 
 

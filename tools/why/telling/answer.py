@@ -67,7 +67,8 @@ def views_of(study: Study, whole: bool) -> Views:
     lines = study.small if whole or told is None else told.lines
     if whole and study.refusal.line <= TOO_MANY:
         lines = study.log.lines(range(2, study.refusal.line + 1))
-    chart = decoded.marked(lanes.chart_of(study.program, study.header, lines, study.refusal, next(iter(study.scene.places), None)), study.log)
+    chart = lanes.chart_of(study.program, study.header, lines, study.refusal, next(iter(study.scene.places), None))
+    chart = decoded.marked(chart, study.log)
     if told and lines is told.lines:
         chart.entries = told.lives()
     return Views(told, no_run, chart if whole else chart.folded(positions(study.repairs)))
@@ -158,8 +159,8 @@ class Parts:
 
 
 def text_of(answer: Answer, parts: Parts) -> str:
-    shown = [[answer.first], parts.small(), parts.held(), decoded.part(parts), parts.repairs(), parts.premise(), parts.stricter(), parts.run(),
-             parts.lanes(), parts.rule()]
+    shown = [[answer.first], parts.small(), parts.held(), decoded.part(parts), parts.repairs(), parts.premise(),
+             parts.stricter(), parts.run(), parts.lanes(), parts.rule()]
     return "\n\n".join("\n".join(part) for part in shown if part) + "\n"
 
 

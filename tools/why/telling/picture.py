@@ -33,7 +33,8 @@ LOOKS = {
     "live": {"fill": "live"}, "broken": {"fill": "broken"}, "seen": {"fill": "seen"}, "half": {"fill": "half"},
     "cleansed": {"fill": "gone"}, "alike": {"fill": "bad"}, "dot": {"fill": "mark"}, "dot refused": {"fill": "bad"},
     "reach": {"stroke": "mark", "stroke-width": "1.3"}, "tile": {"fill": "paper", "stroke": "mark"},
-    "tile x": {"fill": "paper", "stroke": "gone"}, "tile o": {"fill": "band", "stroke": "bad"}, "entry": {"fill": "none", "stroke": "bad", "stroke-width": "2"},
+    "tile x": {"fill": "paper", "stroke": "gone"}, "tile o": {"fill": "band", "stroke": "bad"},
+    "entry": {"fill": "none", "stroke": "bad", "stroke-width": "2"},
 }
 # What the letter of an event stands for.
 SIGNS = {"W": "a valid value", "C": "an invalid one", **{letter: word for word, letter in LETTERS.items()}, "X": "refused"}
@@ -204,7 +205,8 @@ def html(parts: Parts, answer: Answer) -> str:
     """The whole answer: the text's parts, with the picture in the place of the lanes."""
     parts = replace(parts, style=Style(100, False, True))
     picture = f'<h2>Lanes</h2>\n<div class="picture">\n{svg(parts, answer)}</div>\n'
-    shown = (parts.repairs(), parts.premise(), parts.stricter(), parts.held(), decoded.part(parts), parts.small(), parts.run())
+    shown = (parts.repairs(), parts.premise(), parts.stricter(), parts.held(), decoded.part(parts), parts.small(),
+             parts.run())
     first, *more = [section(part) for part in shown if part]
     rule = parts.rule()
     return "<!DOCTYPE html>\n<html lang=\"en\">\n<head>\n<meta charset=\"utf-8\">\n" \

@@ -59,11 +59,13 @@ ROW = re.compile(r"^\| \[(\d+)\]\([^)]*\) \| (\S+) \| (.*) \| .* \|$", re.M)
 def wrapped(text: str, style: Style) -> str:
     """A paragraph, or a point of a list, as wide as the style says."""
     mark, later = ("- ", "  ") if text.startswith("- ") else ("", "")
-    return textwrap.fill(text.removeprefix("- "), style.width, initial_indent=mark, subsequent_indent=later, break_long_words=False, break_on_hyphens=False)
+    return textwrap.fill(text.removeprefix("- "), style.width, initial_indent=mark, subsequent_indent=later,
+                         break_long_words=False, break_on_hyphens=False)
 
 
 def explained(name: str, style: Style) -> str:
-    """The section on a rule, by its number or name; without one a line for each rule, and nothing where there is no such rule."""
+    """The section on a rule, by its number or name; without one a line for each rule, and nothing where there is no
+    such rule."""
     page = read(RULES)
     rows = ROW.findall(page)
     if not name:
@@ -73,5 +75,5 @@ def explained(name: str, style: Style) -> str:
     if not section:
         return ""
     head, *lines = section[0].strip().split("\n")
-    texts = [plain(line).replace("**", "") for line in lines if line]
-    return "\n".join([style.painted(f"rule {head.removeprefix('### ')}", BOLD), "", *(wrapped(text, style) for text in texts)]) + "\n"
+    texts = [wrapped(plain(line).replace("**", ""), style) for line in lines if line]
+    return "\n".join([style.painted(f"rule {head.removeprefix('### ')}", BOLD), "", *texts]) + "\n"
