@@ -71,20 +71,16 @@ class Decoder:
     def __init__(self, front):
         self.trees = Trees(front)
 
-    def spot(self, spot: Spot | None) -> str:
+    def spot(self, spot: Spot) -> str:
         """What a place translates."""
-        if spot is None:
-            return "in no tree that the log shows"
         tag = tag_told(spot.kind, self.trees.tags.get(spot.root, ()))
         return f"{ADDRESSES[spot.kind]} {hex(spot.address)}, {tag}, level {spot.level}"
 
-    def place(self, place: int) -> str:
-        return self.spot(self.trees.spot(place))
-
-    def write(self, event: Event) -> Told:
+    def write(self, event: Event) -> Told | None:
+        """What is said of a write; nothing of one in a page that is in no tree there."""
         spot, old = self.trees.spot(event.place), self.trees.last_value(event.place)
         if spot is None:
-            return Told(self.spot(None))
+            return None
         was_cleared = bool(old) and bool(self.trees.tables.cleared_at(event.place))
         was = value_told(old, spot.level) + (", cleared," if was_cleared and event.value & 1 else "")
         return Told(f"{self.spot(spot)}: {was} to {value_told(event.value, spot.level)}")
@@ -163,7 +159,7 @@ def told_lines(log: Log, wanted: dict[int, int | None]) -> dict[int, Told]:
             found[at] = decoder.write(event)
         elif event.word == "tlbi":
             found[at] = decoder.tlbi(event, place)
-    return found
+    return {at: one for at, one in found.items() if one}
 
 
 def texts_of(log: Log, wanted: dict[int, int | None]) -> dict[int, str]:
