@@ -130,7 +130,8 @@ class Unlocks(Trees):
         value = self.with_output(event, spot.level) if spot else event.value
         for one in self.asked[place >> PAGE].pop(place, []):
             one.next_line = at
-            if is_leaf(value, one.spot.level) and output_of(value, one.spot.level) != output_of(one.old, one.spot.level):
+            level = one.spot.level
+            if is_leaf(value, level) and output_of(value, level) != output_of(one.old, level):
                 one.made = [b"w %d 0x%x 0x%x" % (one.pe, place, value)]
             else:
                 one.until = at
@@ -224,7 +225,8 @@ class GroupAsker(Asker):
                 one.made, one.until = one.plain, one.next_line
 
     def stream(self, put: list[Piece], size: int, events: int) -> Iterator[bytes]:
-        """The first bytes of the log, so many, with other outputs and with these pieces, and the count of its events."""
+        """The first bytes of the log, so many, with other outputs and with these pieces, and the count of its
+        events."""
         changed = [piece for pieces in self.pieces.values() for piece in pieces if piece.offset < size]
         at = len(self.front.header) + 1
         yield from self.front.asked(at)
