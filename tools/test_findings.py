@@ -321,6 +321,10 @@ class Findings:
             loads = re.findall(r"(?:src|href)=\"(?!#)|@import|url\(|https?://(?!www\.w3\.org/2000/svg)", page)
             if done.returncode != 70 or missing or loads or "<script>alert" in page:
                 yield f"findings --html: {done}, without {missing}, and it loads {loads}"
+            done = self.run(["findings", "--html", "other.html", "none.log"], cwd=folder)
+            other = pathlib.Path(folder, "other.html").read_text()
+            if done.returncode != 70 or "Not judged to the end: 1 log<" not in other:
+                yield f"findings --html of a log that isn't there: {done}"
             if not chromium:
                 print("left out: the page in a browser, since there is no chromium", flush=True)
                 return
