@@ -62,6 +62,9 @@ QEMU_EXPORT int qemu_plugin_version = INTERFACE;
 enum { MAX_PES = 128, MAX_VECTORS = 64, WORDS = 512, WAIT_MS = 1000, STOP_MS = 100 };
 #define PAGE_SIZE 4096ull
 #define BASE 0xfffffffff000ull /* the address of a table, in a descriptor and in a root register */
+#define HCR_VM 1ull
+#define HCR_TGE (1ull << 27)
+#define HCR_E2H (1ull << 34)
 #define UNSET 0x1de7ec7edbadc0deull /* KVM gives it to the registers of a new guest that nothing has written */
 
 enum kind { NO_KIND, TTBR0_EL1, TTBR1_EL1, TTBR0_EL2, TTBR1_EL2, VTTBR_EL2, KINDS };
@@ -109,6 +112,7 @@ struct flags {
 struct pe {
 	const struct site *pending;
 	uint64_t base[KINDS]; /* the root registers as they were written last */
+	bool stage2_on; /* by HCR_EL2 as it was written last */
 	uint64_t zeroed_from, zeroed_to, zeroed_at; /* the last translation of a DC ZVA: from page, to page, at which record */
 	bool unfound; /* a DC ZVA is under way at an address that a walk didn't find: mostly it faults, and is made again */
 };
@@ -116,7 +120,7 @@ struct pe {
 /* What the end of the trace tells. */
 struct counts {
 	uint64_t records, stores, tables, links_again, outside_ram, other_granule, raced, late, zero_untold, sve, tags, nxs;
-	uint64_t compare_failed, flag_updates;
+	uint64_t compare_failed, flag_updates, of_guest, nested;
 };
 
 static struct {
@@ -391,8 +395,9 @@ static bool is_loaded(uint64_t root, enum kind kind)
 {
 	unsigned pe;
 
+	/* A host with VHE lets a dead guest stand in VTTBR_EL2 while stage 2 is off. */
 	for (pe = 0; pe < MAX_PES; pe++)
-		if ((trace.pes[pe].base[kind] & BASE) == root)
+		if ((trace.pes[pe].base[kind] & BASE) == root && (kind != VTTBR_EL2 || trace.pes[pe].stage2_on))
 			return true;
 	return false;
 }
@@ -907,6 +912,26 @@ static void keep_vector(uint64_t address)
 	}
 }
 
+/* Whether stage 2 is on, by HCR_EL2. Where E2H and TGE are both 1, VM counts as 0, whatever it is. */
+static bool has_stage2(uint64_t hcr)
+{
+	return (hcr & HCR_VM) && (hcr & (HCR_E2H | HCR_TGE)) != (HCR_E2H | HCR_TGE);
+}
+
+/* Whether a root register of EL1 has an address of a guest: one that its own EL1 writes behind stage 2, or that EL2 writes for
+ * it. Such an address isn't the physical one, so no page is a table for it. */
+static bool is_of_guest(enum kind kind, unsigned el)
+{
+	return (kind == TTBR0_EL1 || kind == TTBR1_EL1) && (el == 2 || has_stage2(register_value(named[HCR_EL2])));
+}
+
+/* Whether a register is one of EL2, or one of EL1 by the name that it has for a host at EL2: below EL2 a write of it is trapped,
+ * or goes to memory, and the register stays. */
+static bool is_kept_from_below(const struct system_register *written)
+{
+	return written->encoding >> 11 >= 4;
+}
+
 static void msr_callback(unsigned vcpu, void *site)
 {
 	struct event event = event_of(site);
@@ -919,8 +944,14 @@ static void msr_callback(unsigned vcpu, void *site)
 	pthread_mutex_lock(&trace.lock);
 	if (!strcmp(written->name, "vbar")) {
 		keep_vector(value & ~0x7ffull);
+	} else if (is_kept_from_below(written) && event.site->el < 2) {
+		trace.counts.nested++;
 	} else {
-		if (kind != NO_KIND)
+		if (!strcmp(written->name, "hcr_el2"))
+			trace.pes[event.pe].stage2_on = has_stage2(value);
+		if (is_of_guest(kind, event.site->el))
+			trace.counts.of_guest++;
+		else if (kind != NO_KIND)
 			root_loaded(&event, kind, value);
 		trace.counts.flag_updates += strstr(written->name, "tcr") && (value >> (written->name[0] == 'v' ? 21 : 39) & 1);
 		tell(&event, 'm', " %s %" PRIx64, at_host ? written->at_host : written->name, value);
@@ -1163,6 +1194,8 @@ static void end_callback(qemu_plugin_id_t id, void *data)
 	TOLD(links_again, "links lead to a page that is a table already");
 	TOLD(outside_ram, "tables lie outside of the memory that is traced, and aren't told");
 	TOLD(other_granule, "writes of root registers are for a granule other than 4 KiB; those tables aren't told");
+	TOLD(of_guest, "writes of root registers of EL1 have an address of a guest; those tables aren't told");
+	TOLD(nested, "writes of registers of EL2 below EL2 were trapped, and aren't told");
 	TOLD(sve, "stores by SVE aren't seen");
 	TOLD(tags, "stores of tags that zero data aren't seen");
 	TOLD(nxs, "DSB nXS have no line in a log");

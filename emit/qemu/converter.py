@@ -3,8 +3,9 @@
 
     emit/qemu/bbm_convert WORLD TRACE [-o LOG] [--symbols FILE] [--allow NAME,..] [--suggest]
 
-WORLD is `kernel` (EL1), `hyp` (EL2 and stage 2) or `vhe` (a kernel that runs at EL2, told as one at EL1). TRACE is a file,
-or a pipe with --follow, which writes each line of the log as soon as the trace has what it comes from.
+WORLD is `kernel` (EL1), `hyp` (EL2 without VHE, and stage 2), `vhe` (a kernel that runs at EL2, told as one at EL1) or
+`stage2` (stage 2 alone, of a hypervisor with or without VHE). TRACE is a file, or a pipe with --follow, which writes each
+line of the log as soon as the trace has what it comes from.
 
 The log is one of version 5, unless --header has another, and says what the machine did. Each departure from it is a
 normalisation with a name, is made only where --allow has the name, and is told on standard error with how often it was made
@@ -35,6 +36,7 @@ TOP = os.path.dirname(os.path.dirname(os.path.dirname(os.path.realpath(__file__)
 BASE = 0xfffffffff000  # the address of a table, in a descriptor and in a root register
 CONTIGUOUS, NON_SECURE, INDEX, ASID_BIT = 1 << 52, 1 << 5, 7 << 2, 1 << 48
 NO_UPPER_WALKS = 1 << 23  # TCR.EPD1
+VM, TGE, E2H = 1, 1 << 27, 1 << 34  # of HCR_EL2
 NULL_PAGE = 0  # the base of a VTTBR_EL2 by which no walk is made: of a machine of QEMU it is no memory
 OTHER_GRANULES = {1: 64, 2: 16}  # TCR.TG0, in KiB
 
@@ -84,11 +86,13 @@ class World:
 # also be held under ASID 0. The two of EL2 don't depend on each other.
 KERNEL_REGISTERS = {"ttbr1_el1": ("ttbr1_el1", TTBR1_EL1), "ttbr0_el1": ("ttbr0_el1", TTBR0_EL1)}
 HOST_REGISTERS = {"ttbr1_el2": ("ttbr1_el1", TTBR1_EL2), "ttbr0_el2": ("ttbr0_el1", TTBR0_EL2)}
-HYP_REGISTERS = {"ttbr0_el2": ("ttbr0_el2", TTBR0_EL2), "vttbr_el2": ("vttbr_el2", VTTBR_EL2)}
+STAGE2_REGISTERS = {"vttbr_el2": ("vttbr_el2", VTTBR_EL2)}
+HYP_REGISTERS = {"ttbr0_el2": ("ttbr0_el2", TTBR0_EL2), **STAGE2_REGISTERS}
 WORLDS = {
     "kernel": World("kernel", {TTBR0_EL1: "ttbr0", TTBR1_EL1: "ttbr1"}, KERNEL_REGISTERS, 1, "process"),
     "vhe": World("kernel", {TTBR0_EL2: "ttbr0", TTBR1_EL2: "ttbr1"}, HOST_REGISTERS, 2, "process"),
     "hyp": World("hyp", {TTBR0_EL2: "el2", VTTBR_EL2: "s2"}, HYP_REGISTERS, 2, "guest"),
+    "stage2": World("hyp", {VTTBR_EL2: "s2"}, STAGE2_REGISTERS, 2, "guest"),
 }
 
 
@@ -138,6 +142,16 @@ def is_of_el2(name):
 
 def is_of_stage2(name):
     return "ipas2" in name or "s12" in name or name.startswith("alle1")
+
+
+def is_host(hcr):
+    """Whether EL2 and EL0 are one regime of a host, EL2&0, by HCR_EL2: then TLBIs of stage 1 are of that, and not of EL1&0."""
+    return hcr & (E2H | TGE) == E2H | TGE
+
+
+def has_stage2(hcr):
+    """Whether stage 2 is on, by HCR_EL2. Where E2H and TGE are both 1, VM counts as 0, whatever it is."""
+    return bool(hcr & VM) and not is_host(hcr)
 
 
 # ---- what has to be known before the first line
@@ -198,6 +212,7 @@ class Facts:
         # their lines and roots.
         self.is_whole, self.loads, self.used, self.life = False, {}, {}, defaultdict(list)
         self.named, self.table_code, self.stores = {}, set(), defaultdict(list)
+        self.hosts = {}
 
     def add(self, index, line):
         op = line[0]
@@ -218,17 +233,20 @@ class Facts:
             self.pes = int(found.group(1)) if found else self.pes
 
     def add_use(self, index, line):
-        """A PE is, or was until now, below EL2, with the value of VTTBR_EL2 that it has."""
+        """A PE is, or was until now, below EL2, with the value of VTTBR_EL2 that it has. A program of a host with VHE, at EL0
+        of its regime EL2&0, has none of it in use."""
         fields = line.split(" ", 6)
-        if fields[2] in "01" or came_from_below(fields):
+        if (fields[2] in "01" or came_from_below(fields)) and not self.hosts.get(fields[1]):
             self.used[self.loads.get(fields[1])] = index
 
     def add_store(self, index, code, root):
-        """A store to a table of stage 2. The guest lives where a PE has its root loaded, or loads it afterwards."""
-        if root in self.named.values():
+        """A store to a table of stage 2. The guest lives where a PE has its root loaded, or loads it afterwards. A host with VHE
+        lets VTTBR_EL2 stand when the guest is dead: there it lives where the PE comes below EL2 with that value afterwards."""
+        having = [pe for pe, base in self.named.items() if base == root]
+        if any(not self.hosts.get(pe) for pe in having):
             self.table_code.add(code)
         elif code not in self.table_code:
-            self.stores[code].append((index, root))
+            self.stores[code].append((index, root, [self.loads[pe] for pe in having]))
 
     def is_loaded_after(self, root, index):
         """Whether a root is loaded again before its page has another use."""
@@ -239,7 +257,8 @@ class Facts:
     def end(self):
         """The whole trace was taken: it shows which roots were loaded behind a store."""
         for code, stores in self.stores.items():
-            if any(self.is_loaded_after(root, at) for at, root in stores):
+            if any(self.is_loaded_after(root, at) or any(self.used.get(load, -1) > at for load in loads)
+                   for at, root, loads in stores):
                 self.table_code.add(code)
 
     def count(self, line):
@@ -254,6 +273,8 @@ class Facts:
 
     def add_register(self, index, fields):
         pe, name, value = fields[1], fields[5], int(fields[6], 16)
+        if name == "hcr_el2" and fields[2] != "1":
+            self.hosts[pe] = is_host(value)
         if name == "vttbr_el2":
             self.loads[pe], self.named[pe] = index, value & BASE
             self.life[value & BASE].append((index, True))
@@ -277,7 +298,7 @@ class Facts:
         """The form of roots by the registers as a PE has them now; what they don't say is that of most roots."""
         control = self.controls.get(pe, self.controls.get("any"))
         if control is None:
-            first, second = (self.most(kind, (0, 1))[0] for kind in self.world.kinds)
+            first, second = ([0] + [self.most(kind, (0, 1))[0] for kind in self.world.kinds])[-2:]
         else:
             first, second = stage1_start(control & 63), stage1_start(control >> 16 & 63)
         if self.world.form == "kernel":
@@ -339,7 +360,7 @@ class Converter:
     def __init__(self, world, facts, form, begins_late, symbols, out):
         self.world, self.facts, self.form, self.symbols, self.out = world, facts, form, symbols, out
         self.tables, self.roots, self.locks = {}, {}, {}
-        self.registers, self.mmu_on, self.host_only = defaultdict(dict), {}, {}
+        self.registers, self.mmu_on, self.hosts, self.was_host = defaultdict(dict), {}, {}, False
         self.stage2_on, self.written_at, self.has_null, self.given_up = {}, {}, set(), set()
         self.attributes, self.least = {}, range(8)
         self.made, self.told, self.left_out, self.at_stage2, self.stage2_writes = Counter(), Counter(), Counter(), 0, 0
@@ -389,7 +410,7 @@ class Converter:
 
     def take_isb(self, fields):
         value = self.registers[fields[1]].get("vttbr_el2", 0)
-        if value & BASE and came_from_below(fields):
+        if value & BASE and came_from_below(fields) and not self.hosts.get(fields[1]):
             self.came_up(fields, value)
         self.emit(f"isb {fields[1]}")
 
@@ -416,11 +437,13 @@ class Converter:
 
     def is_mine(self, name, el, pe):
         """Whether a TLBI is one of this world."""
-        if self.world.form == "hyp":
+        if self.world is WORLDS["hyp"]:
             return el == 2
+        if self.world is WORLDS["stage2"]:
+            return el == 2 and (is_of_stage2(name) or (name.startswith("vmalle1") and not self.hosts.get(pe, True)))
         if el != self.world.el or is_of_stage2(name) or is_of_el2(name):
             return False
-        return el == 1 or self.host_only.get(pe, True)
+        return el == 1 or self.hosts.get(pe, True)
 
     # ---- tables
 
@@ -476,7 +499,7 @@ class Converter:
                            "null page, and now it is written. Without --follow it can be judged")
         if table is None:
             return
-        if table.kind == VTTBR_EL2 and page_of_code(fields) not in self.facts.table_code and not self.loaded_at(table.root):
+        if table.kind == VTTBR_EL2 and page_of_code(fields) not in self.facts.table_code and not self.is_named(table.root):
             self.note_other_use(fields, table)
         if table.is_told and table.root in self.given_up:
             self.left_out["store to a table of a root that was given up"] += self.started
@@ -557,6 +580,10 @@ class Converter:
         if not used and not self.facts.is_loaded_after(table.root, self.index):
             self.give_up(fields, table.root)
 
+    def is_named(self, root):
+        """Whether a PE that isn't in a host with VHE, which lets VTTBR_EL2 stand as it is, has a root loaded."""
+        return any(not self.hosts.get(pe) for pe in self.loaded_at(root))
+
     def loaded_at(self, root):
         """The PEs whose VTTBR_EL2 names a root."""
         return [pe for pe, values in self.registers.items() if values.get("vttbr_el2", 0) & BASE == root]
@@ -597,10 +624,11 @@ class Converter:
 
     def take_register(self, fields):
         pe, el, name, value = fields[1], int(fields[2]), fields[5], int(fields[6], 16)
-        if name == "hcr_el2":
-            self.host_only[pe] = bool(value >> 27 & 1)
-            self.turn_stage2(fields, pe, bool(value & 1))
-        if name == "sctlr_el2" and self.world.form == "hyp":
+        if name == "hcr_el2" and el != 1:
+            self.hosts[pe] = is_host(value)
+            self.was_host = self.was_host or is_host(value)
+            self.turn_stage2(fields, pe, has_stage2(value))
+        if name == "sctlr_el2" and self.world is WORLDS["hyp"]:
             self.turn_mmu(fields, pe, bool(value & 1))
         if name == self.world.attributes:
             self.attributes[pe] = value.to_bytes(8, "little")
@@ -906,6 +934,9 @@ def misfits(converter, header, allow):
         told.append(f"roots of {kind} that start {words_of_form(*form)}, {count} times: "
                     + (f"the header has those that start {words_of_form(*had[kind])}" if form[0] >= 0 else
                        "52 bits of address, which no log has. For Linux: -cpu max,lpa2=off"))
+    if converter.world is WORLDS["hyp"] and converter.was_host:
+        told.append("HCR_EL2 has E2H and TGE: a hypervisor with VHE, whose own tables and TLBIs aren't those of this world. The "
+                    "world stage2 has its guests, and the world vhe its own tables")
     if converter.has_cnp and "cnp" not in header.split() and "no-cnp" not in allow:
         told.append("a root register has CnP, and the header, which was written before, says that none has")
     return told
@@ -951,7 +982,7 @@ def report(asked, facts, converter, header, judged, remarks):
         tell(f"the trace: {remark}")
     for size in granules(converter):
         tell(f"the kernel has pages of {size} KiB: a log has those of 4 KiB alone, so none of its tables is told")
-    if asked.world == "hyp" and not converter.stage2_writes:
+    if WORLDS[asked.world].form == "hyp" and not converter.stage2_writes:
         tell("stage 2 isn't judged: no table of it is written, as where a hypervisor has no guest")
     return report_judged(asked.world, judged, misfits(converter, header, asked.allow), facts.is_complete)
 
@@ -1191,7 +1222,7 @@ def read_words():
     asked.allow = [name for name in asked.allow.split(",") if name]
     asked.words = [word for word in asked.words.split(",") if word]
     form = form_of(asked.header) if asked.header else None
-    if asked.header and (form is None or (form.asid is None) != (asked.world == "hyp")):
+    if asked.header and (form is None or (form.asid is None) != (asked.world in ("hyp", "stage2"))):
         words.error(f'"{asked.header}" is no header of the world {asked.world} (docs/FORMAT.md)')
     if asked.words and asked.header:
         words.error("--header has the words itself")

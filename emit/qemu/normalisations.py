@@ -15,7 +15,7 @@ WHEN = {ANY: "", BEFORE_WORDS: "before version 5, which has the word inorder for
 Normalisation = namedtuple("Normalisation", "worlds does weakens versions", defaults=(ANY,))
 Premise = namedtuple("Premise", "worlds premise weakens")
 Demand = namedtuple("Demand", "worlds asks misses")
-KERNEL, HYP = ("kernel", "vhe"), ("hyp",)
+KERNEL, EL2, HYP = ("kernel", "vhe"), ("hyp",), ("hyp", "stage2")
 
 ALL = {
     "snapshot": Normalisation(
@@ -35,11 +35,11 @@ ALL = {
         KERNEL, "a second root in TTBR1_EL1 is told as the first; of each pair of ASIDs the even one alone is told",
         "entries under the odd ASID of a process, and those of the second upper root, aren't judged"),
     "mmu-off": Normalisation(
-        HYP, "while the MMU of EL2 is off its root register is told as 0",
+        EL2, "while the MMU of EL2 is off its root register is told as 0",
         "that a PE makes no walk of EL2 then is taken from SCTLR_EL2.M"),
     "stage2-off": Normalisation(
-        HYP, "while HCR_EL2.VM is 0, VTTBR_EL2 is told with a null page as its base and the VMID that it has",
-        "that a PE makes no walk of stage 2 then is taken from HCR_EL2.VM", WITH_WORDS),
+        HYP, "while HCR_EL2.VM is 0, or E2H and TGE are both 1, VTTBR_EL2 is told with a null page as its base and the VMID that it has",
+        "that a PE makes no walk of stage 2 then is taken from HCR_EL2", WITH_WORDS),
     "out-of-context": Normalisation(
         HYP, "a value of VTTBR_EL2 with which a PE doesn't go below EL2 (any more) is told with a null page as its base and the VMID that it has",
         "that a PE at EL2 makes no walk of stage 2 is taken from the architecture: that regime is out of context", WITH_WORDS),

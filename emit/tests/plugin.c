@@ -7,7 +7,8 @@
 #include "../qemu/bbm_trace.c"
 
 enum { RAM_BYTES = 1 << 20, PLACE = 0x40000000, CALLBACKS = 8, INSNS = 2, SEEKERS = 8 };
-enum { DC_ZVA_X0 = 0xd50b7420, NOP = 0xd503201f };
+enum { DC_ZVA_X0 = 0xd50b7420, NOP = 0xd503201f, MSR_TTBR0_EL1_X0 = 0xd5182000, MSR_HCR_EL2_X0 = 0xd51c1100 };
+enum { MSR_VTTBR_EL2_X0 = 0xd51c2100, AT_EL1 = 5, AT_EL2 = 9 };
 
 /* ---- a QEMU that runs a block of two instructions */
 
@@ -25,15 +26,18 @@ static qemu_plugin_udata_cb_t end_all;
 static struct flags score;
 static char *ram_of_qemu;
 
-/* The registers, by their names: the MMU of EL1 is on, with tables of 4 KiB, and its root is the empty page at PLACE. */
+/* The registers, by their names: the MMU of EL1 is on, with tables of 4 KiB, and its root is the empty page at PLACE. Stage 2
+ * of 4 KiB starts at level 1, and is off. */
 struct qemu_plugin_register {
 	const char *name;
 	uint64_t value;
 };
 
 static struct qemu_plugin_register registers[] = {
-	{ "cpsr", 5 }, { "x0", 0 }, { "SCTLR", 1 }, { "TCR_EL1", 0x80100010 }, { "TTBR0_EL1", PLACE },
+	{ "cpsr", AT_EL1 }, { "x0", 0 }, { "SCTLR", 1 }, { "TCR_EL1", 0x80100010 }, { "TTBR0_EL1", PLACE }, { "HCR_EL2", 0 },
+	{ "VTCR_EL2", 0x80023559 },
 };
+enum { CPSR_AT, X0_AT, HCR_AT = 5 };
 
 GByteArray *g_byte_array_new(void)
 {
@@ -228,6 +232,35 @@ static void zero_pages(void)
 	run_block(2);
 }
 
+/* An instruction at an EL, by what X0 has. */
+static void run_insn(uint32_t word, uint64_t cpsr, uint64_t x0)
+{
+	registers[CPSR_AT].value = cpsr;
+	registers[X0_AT].value = x0;
+	memset(block, 0, sizeof block);
+	block[0].word = word;
+	block[1].word = NOP;
+	translate_block(0, NULL);
+	run_block(1);
+}
+
+/* What a guest writes isn't a physical address, what it writes of EL2 is trapped, and a guest stays loaded in VTTBR_EL2 for as
+ * long as stage 2 is on. */
+static bool tells_guests_apart(void)
+{
+	bool is_kept, is_gone;
+
+	registers[HCR_AT].value = HCR_VM;
+	run_insn(MSR_TTBR0_EL1_X0, AT_EL1, PLACE + PAGE_SIZE);
+	run_insn(MSR_VTTBR_EL2_X0, AT_EL1, PLACE + 2 * PAGE_SIZE);
+	run_insn(MSR_HCR_EL2_X0, AT_EL2, HCR_VM);
+	run_insn(MSR_VTTBR_EL2_X0, AT_EL2, PLACE + 3 * PAGE_SIZE);
+	is_kept = is_loaded(PLACE + 3 * PAGE_SIZE, VTTBR_EL2) && !is_loaded(PLACE + 2 * PAGE_SIZE, VTTBR_EL2);
+	run_insn(MSR_HCR_EL2_X0, AT_EL2, HCR_VM | HCR_TGE | HCR_E2H);
+	is_gone = !is_loaded(PLACE + 3 * PAGE_SIZE, VTTBR_EL2);
+	return is_kept && is_gone && !is_loaded(PLACE + PAGE_SIZE, TTBR0_EL1);
+}
+
 int main(int argc, char **argv)
 {
 	static char ram[] = "ram=", out[] = "out=";
@@ -250,6 +283,8 @@ int main(int argc, char **argv)
 	root_loaded(&event, TTBR0_EL1, UNSET);
 	root_loaded(&event, TTBR1_EL1, UNSET);
 	zero_pages();
+	if (!tells_guests_apart())
+		return 1;
 	end_all(0, NULL);
 	unlink(ram_path);
 	return 0;

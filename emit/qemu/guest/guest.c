@@ -20,8 +20,15 @@ typedef uint64_t u64;
 #define TEST 0x80000000ul      /* the input address at which scenarios map */
 #define IPA 0x40000000ul       /* and the one of stage 2 */
 
+/* HCR_EL2 of a host with VHE, of that host for its guest's TLBIs, and of the guest. */
+#define HCR_RW (1ul << 31)
+#define HCR_E2H (1ul << 34)
+#define HCR_HOST (HCR_RW | HCR_E2H | 1ul << 27)
+#define HCR_FOR_GUEST (HCR_RW | HCR_E2H)
+#define HCR_GUEST (HCR_FOR_GUEST | 1)
+
 enum { PAGE = 4096, BLOCK = 0x200000, ASID = 1, OTHER_ASID = 2, VMID = 1, LAST_VMID = 255, LOCK = 3 };
-enum regime { EL1, EL2, EL1_ASID_IN_TTBR1 };
+enum regime { EL1, EL2, EL1_ASID_IN_TTBR1, HOST };
 
 /* ---- instructions */
 
@@ -148,6 +155,13 @@ static void turn_on_el2(void)
 	tlbi(alle2);
 	dsb(nsh);
 	write_register(sctlr_el2, 0x30c51835);
+	isb();
+}
+
+/* A host with VHE: it stays at EL2 with its MMU off, since its own tables aren't those that are judged. */
+static void turn_on_host(void)
+{
+	write_register(hcr_el2, HCR_HOST);
 	isb();
 }
 
@@ -766,6 +780,79 @@ SCENARIO_CODE vmids_used_up_unflushed(void)
 	use_up_vmids(false);
 }
 
+/* ---- scenarios of a host with VHE, which maintains stage 2 at EL2 with TGE 1, as KVM does */
+
+static void set_hcr(u64 value)
+{
+	write_register(hcr_el2, value);
+	isb();
+}
+
+/* The guest lives on: its root is loaded once more. */
+static void load_again(void)
+{
+	write_register(vttbr_el2, guest_root | (u64)VMID << 48);
+	isb();
+}
+
+static void flush_guest_page(void)
+{
+	tlbi_at(ipas2e1is, IPA >> 12);
+	dsb(ish);
+	tlbi(vmalle1is);
+	dsb(ish);
+}
+
+SCENARIO_CODE host_remaps(void)
+{
+	load_guest();
+	store(guest_place(), 0);
+	dsb(ishst);
+	set_hcr(HCR_FOR_GUEST);
+	flush_guest_page();
+	set_hcr(HCR_HOST);
+	store(guest_place(), guest_leaf(FRAME_B));
+	load_again();
+}
+
+/* With TGE 1 the second step takes the host's own entries. */
+SCENARIO_CODE host_remaps_with_tge(void)
+{
+	load_guest();
+	store(guest_place(), 0);
+	dsb(ishst);
+	flush_guest_page();
+	store(guest_place(), guest_leaf(FRAME_B));
+	load_again();
+}
+
+SCENARIO_CODE host_flushes_itself(void)
+{
+	load_guest();
+	store(guest_place(), 0);
+	dsb(ishst);
+	set_hcr(HCR_FOR_GUEST);
+	tlbi_at(ipas2e1is, IPA >> 12);
+	dsb(ish);
+	set_hcr(HCR_HOST);
+	tlbi(vmalle1is);
+	dsb(ish);
+	store(guest_place(), guest_leaf(FRAME_B));
+	load_again();
+}
+
+/* The guest dies, and still stands in VTTBR_EL2. */
+SCENARIO_CODE host_lets_a_guest_die(void)
+{
+	load_guest();
+	set_hcr(HCR_GUEST);
+	set_hcr(HCR_HOST);
+	store(guest_place(), 0);
+	store(guest_root + 8 * (IPA >> 30), 0);
+	store(guest_root, 0x123456789ul);
+	flush_vmids();
+}
+
 /* ---- which runs */
 
 static const struct scenario {
@@ -796,6 +883,9 @@ static const struct scenario {
 	{ "hyp vmids_used_up_unflushed", EL2, false, vmids_used_up_unflushed },
 	{ "kernel switch_process", EL1_ASID_IN_TTBR1, false, switch_process },
 	{ "kernel switch_process_from_the_old_root", EL1_ASID_IN_TTBR1, false, switch_process_from_the_old_root },
+	{ "stage2 host_remaps", HOST, false, host_remaps }, { "stage2 host_remaps_with_tge", HOST, false, host_remaps_with_tge },
+	{ "stage2 host_flushes_itself", HOST, false, host_flushes_itself },
+	{ "stage2 host_lets_a_guest_die", HOST, false, host_lets_a_guest_die },
 };
 
 void enter_el1(void);
@@ -803,11 +893,13 @@ void second_start(void);
 
 static void turn_on(void)
 {
-	if (regime != EL2) {
+	if (regime == HOST) {
+		turn_on_host();
+	} else if (regime == EL2) {
+		turn_on_el2();
+	} else {
 		enter_el1();
 		turn_on_el1();
-	} else {
-		turn_on_el2();
 	}
 }
 
