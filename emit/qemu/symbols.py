@@ -5,10 +5,13 @@ A symbol file is what /proc/kallsyms or System.map has (`ADDRESS TYPE NAME` a li
 With debug data in the ELF file a label is `file:line`, by addr2line, and else the symbol. Of a long one it is the last 32
 characters, as in emit/bbm_emit.h.
 """
+from __future__ import annotations
+
 import bisect
 import re
 import shutil
 import subprocess
+from collections.abc import Iterable, Iterator
 
 NOT_IN_A_LABEL = re.compile(r"[^A-Za-z0-9./:_-]")
 LONGEST = 32
@@ -19,21 +22,21 @@ class NoTool(Exception):
     """Symbols can't be read without a program."""
 
 
-def label_of(text):
+def label_of(text: str) -> str:
     return NOT_IN_A_LABEL.sub("_", text)[-LONGEST:]
 
 
-def tool(name):
+def tool(name: str) -> str | None:
     """A program of binutils that knows code of arm64, or None."""
     return next(filter(None, map(shutil.which, ("aarch64-linux-gnu-" + name, "llvm-" + name, name))), None)
 
 
-def is_elf(path):
+def is_elf(path: str) -> bool:
     with open(path, "rb") as file:
         return file.read(4) == b"\x7fELF"
 
 
-def lines_of_elf(path):
+def lines_of_elf(path: str) -> list[str]:
     """The symbols of an ELF file, as lines of a map."""
     nm = tool("nm")
     if not nm:
@@ -44,7 +47,7 @@ def lines_of_elf(path):
     return done.stdout.split("\n")
 
 
-def code_of(lines):
+def code_of(lines: Iterable[str]) -> Iterator[tuple[int, str]]:
     """The symbols of code in the lines of a map: (address, name)."""
     for line in lines:
         fields = line.split()
@@ -52,7 +55,7 @@ def code_of(lines):
             yield int(fields[0], 16), fields[2]
 
 
-def read_symbols(path):
+def read_symbols(path: str) -> list[tuple[int, str]]:
     if is_elf(path):
         return sorted(code_of(lines_of_elf(path)))
     with open(path, encoding="latin-1") as file:
@@ -62,12 +65,13 @@ def read_symbols(path):
 class Lines:
     """addr2line, as a process that is asked an address at a time."""
 
-    def __init__(self, path):
+    def __init__(self, path: str) -> None:
         addr2line = tool("addr2line")
-        self.process = addr2line and subprocess.Popen([addr2line, "-e", path], stdin=subprocess.PIPE, stdout=subprocess.PIPE, text=True)
+        self.process = subprocess.Popen([addr2line, "-e", path], stdin=subprocess.PIPE, stdout=subprocess.PIPE,
+                                        text=True) if addr2line else None
 
-    def at(self, address):
-        if not self.process:
+    def at(self, address: int) -> str | None:
+        if not self.process or not self.process.stdin or not self.process.stdout:
             return None
         self.process.stdin.write(f"{address:x}\n")
         self.process.stdin.flush()
@@ -80,20 +84,22 @@ class Lines:
 
 
 class Symbols:
-    def __init__(self, path=None, functions_only=False):
-        self.known, self.labels, self.shift = read_symbols(path) if path else [], {}, None
-        self.lines = Lines(path) if path and is_elf(path) and not functions_only else None
+    def __init__(self, path: str | None = None, functions_only: bool = False) -> None:
+        self.known = read_symbols(path) if path else []
         self.addresses = [address for address, _ in self.known]
+        self.lines = Lines(path) if path and is_elf(path) and not functions_only else None
+        self.labels: dict[tuple[int, int, int], str] = {}
+        self.shift: int | None = None
 
-    def holds(self, address):
-        return self.known and self.addresses[0] <= address < self.addresses[-1] + 0x10000
+    def holds(self, address: int) -> bool:
+        return bool(self.known) and self.addresses[0] <= address < self.addresses[-1] + 0x10000
 
-    def name(self, address):
+    def name(self, address: int) -> str:
         name = self.known[bisect.bisect(self.addresses, address) - 1][1]
         # Code of a hypervisor of KVM has this prefix in the kernel's symbols.
         return "hyp:" + name[11:] if name.startswith("__kvm_nvhe_") else name
 
-    def learn(self, line):
+    def learn(self, line: str) -> None:
         """Takes from a line of a trace how far what was linked stands from where it is in memory, if that isn't known yet."""
         if self.shift is not None or not self.known or line[:1] in ("", "#", "c"):
             return
@@ -101,7 +107,7 @@ class Symbols:
         if physical and self.holds(pc):
             self.shift = pc - physical
 
-    def label(self, pc, physical, el):
+    def label(self, pc: int, physical: int, el: int) -> str | None:
         """The label of an instruction, or None. What runs elsewhere than it was linked for is found by where it stands in
         memory, once one instruction was learned at both."""
         key = pc, physical, el

@@ -68,7 +68,10 @@ def verdict_of(line: str) -> Verdict | None:
     if not found:
         return None
     word, part = line.split(" ", 1)[0], found.groupdict(default="")
-    number = lambda *names: int(next((part[name] for name in names if part[name]), "0"))
+
+    def number(*names: str) -> int:
+        return int(next((part[name] for name in names if part[name]), "0"))
+
     return Verdict(word, number("events"), number("line", "bad", "last"), number("rule", "cause"),
                    part["name"] or part["why"] or part["which"], int(part["at"] or "0", 16), part["label"])
 
@@ -139,7 +142,7 @@ class Program:
     """The built program. Answers to small logs are remembered."""
 
     path: str
-    known: dict = field(default_factory=dict)
+    known: dict[tuple[tuple[str, ...], bytes], Answer] = field(default_factory=dict)
 
     def ask(self, words: tuple[str, ...], log: bytes) -> Answer:
         key = (words, log)
@@ -161,16 +164,17 @@ class Program:
             with subprocess.Popen([self.path, *words], stdin=log, stdout=subprocess.PIPE) as running:
                 with contextlib.suppress(BrokenPipeError):
                     for part in parts:
+                        assert running.stdin
                         running.stdin.write(part)
                 text, _ = running.communicate()
         except OSError as fault:
-            status = Status.NO_MEMORY if fault.errno == errno.ENOMEM else Status.UNABLE
-            raise Unable(status, f"the program can't be run: {fault}") from fault
+            raise Unable(Status.NO_MEMORY if fault.errno == errno.ENOMEM else Status.UNABLE,
+                         f"the program can't be run: {fault}") from fault
         if running.returncode < 0:
             raise Unable(Status.UNABLE, f"the program was ended by signal {-running.returncode}, so there is no answer")
         if running.returncode not in ANSWERS:
-            why = FAULTS.get(running.returncode, f"the program ended with status {running.returncode}")
-            status = running.returncode if running.returncode in FAULTS else Status.UNABLE
+            status = Status(running.returncode) if running.returncode in FAULTS else Status.UNABLE
+            why = FAULTS.get(status, f"the program ended with status {running.returncode}")
             raise Unable(status, f"{why}, so there is no answer")
         return Answer(running.returncode, text.decode("latin-1"))
 

@@ -7,17 +7,43 @@ versions of the header under which it is made; of a premise what it takes to be 
 misses in such a log. `--suggest` tries them in this order, those without a word first, and takes the first of those that get
 past a refusal. It tries no demand, which gets past none.
 """
-from collections import namedtuple
+from __future__ import annotations
+
+from collections.abc import Mapping
+from dataclasses import dataclass
+from typing import Union
 
 LATEST = 5  # version of the header
 ANY, BEFORE_WORDS, WITH_WORDS = range(1, LATEST + 1), range(1, 5), range(5, LATEST + 1)
 WHEN = {ANY: "", BEFORE_WORDS: "before version 5, which has the word inorder for it", WITH_WORDS: "from version 5 on"}
-Normalisation = namedtuple("Normalisation", "worlds does weakens versions", defaults=(ANY,))
-Premise = namedtuple("Premise", "worlds premise weakens")
-Demand = namedtuple("Demand", "worlds asks misses")
+
+
+@dataclass(frozen=True)
+class Normalisation:
+    worlds: tuple[str, ...]
+    does: str
+    weakens: str
+    versions: range = ANY
+
+
+@dataclass(frozen=True)
+class Premise:
+    worlds: tuple[str, ...]
+    premise: str
+    weakens: str
+
+
+@dataclass(frozen=True)
+class Demand:
+    worlds: tuple[str, ...]
+    asks: str
+    misses: str
+
+
+Word = Union[Premise, Demand]
 KERNEL, EL2, HYP = ("kernel", "vhe"), ("hyp",), ("hyp", "stage2")
 
-ALL = {
+ALL: dict[str, Normalisation] = {
     "snapshot": Normalisation(
         (*KERNEL, *HYP), "the log begins when the first process, or guest, is loaded, with the tables as they stand then",
         "what was done before isn't judged, and no TLB is taken to hold anything from before"),
@@ -50,7 +76,7 @@ ALL = {
 
 
 # Words of the header, in its order. They are told of no line. A premise says that something is true which no trace shows.
-WORDS = {
+WORDS: dict[str, Word] = {
     "unflushed": Premise(
         (*KERNEL, *HYP), "no walk of a root that was given up goes on, though TLBs may keep what was read through it",
         "a walk that does isn't found"),
@@ -64,11 +90,47 @@ WORDS = {
 }
 
 
-def premises():
+def premises() -> dict[str, Word]:
     """The words that are premises."""
     return {name: word for name, word in WORDS.items() if isinstance(word, Premise)}
 
 
-def of_world(some, world):
+def of_world(some: Mapping[str, Normalisation | Word], world: str | None) -> list[str]:
     """The names of those normalisations, or words, that a world has; of all for None."""
     return [name for name, one in some.items() if world is None or world in one.worlds]
+
+
+def is_of_version(name: str, header: str) -> bool:
+    """Whether a normalisation is made under a header that is given, or the one that is found where none is."""
+    return (int(header.split()[1]) if header else LATEST) in ALL[name].versions
+
+
+def about(name: str, often: str = "") -> str:
+    """A normalisation with what it does, or a word with its premise, and what is lost by it; or with what it asks and misses."""
+    word = WORDS.get(name)
+    if isinstance(word, Premise):
+        return f"{name}, a premise that the header makes: {word.premise}. It weakens: {word.weakens}"
+    if word:
+        return f"{name}, which the header asks for: {word.asks}. It misses: {word.misses}"
+    one = ALL[name]
+    return f"{name}{often}: {one.does}. It weakens: {one.weakens}"
+
+
+def listed() -> list[str]:
+    """All of them, as --list prints them."""
+    lines = []
+    for name, one in ALL.items():
+        when = f"; {WHEN[one.versions]}" * (one.versions != ANY)
+        lines.append(f"{name} ({', '.join(one.worlds)}{when})\n    {one.does}.\n    It weakens: {one.weakens}.")
+    for name, word in WORDS.items():
+        says = f"The premise that {word.premise}" if isinstance(word, Premise) else f"It asks that {word.asks}"
+        lost = f"It weakens: {word.weakens}" if isinstance(word, Premise) else f"It misses: {word.misses}"
+        lines.append(f"{name}, a word of the header ({', '.join(word.worlds)})\n    {says}.\n    {lost}.")
+    return lines
+
+
+def as_asked(allow: list[str]) -> str:
+    """The words of the command by which these are allowed."""
+    names = [name for name in allow if name in ALL]
+    words = [name for name in WORDS if name in allow]
+    return "".join(f" --{option} {','.join(some)}" for option, some in (("words", words), ("allow", names)) if some)
