@@ -1,6 +1,6 @@
 # SPDX-License-Identifier: Apache-2.0 OR GPL-2.0-or-later
 # shellcheck shell=bash
-# What `run` and `tools/qemu_demo` share. They set `top`, the folder of the repository.
+# What `run`, `tools/qemu_demo` and `tools/emit_demo` share. They set `top`, the folder of the repository.
 : "${top:?}"
 QEMU=${QEMU:-qemu-system-aarch64}
 
@@ -21,14 +21,12 @@ has_qemu() {
   return 1
 }
 
-# The checker: $BBM, or the built one, or the script that builds it.
+# The checker: $BBM, or the built one, of which the script knows whether its sources changed. Nothing is built for it.
 checker() {
   if [ -n "${BBM:-}" ]; then
     echo "$BBM"
-  elif [ -x "$top/crates/bbm_cli/out/bbm_cli" ]; then
-    echo "$top/crates/bbm_cli/out/bbm_cli"
   else
-    echo "$top/bbm"
+    "$top/bbm" --program
   fi
 }
 

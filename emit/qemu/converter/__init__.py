@@ -7,7 +7,10 @@
 | `worlds`, `forms` | what belongs to a world, and what a header says of its roots |
 | `records`, `tlbis` | a line of a trace, and the operation of a TLBI |
 | `facts`, `guests` | what has to be known of a trace before its first line is told: for the header, and of guests |
-| `conversion` | takes each line of a trace, with `trees` for tables and roots, `descriptors` for what stands in them, `registers` for root registers, `pes` for what the PEs have, and `telling` for what is handed on |
+| `conversion` | takes each line of a trace |
+| `trees`, `descriptors` | tables and roots, and what stands in them |
+| `registers`, `pes` | root registers, and what the PEs have |
+| `telling` | what is handed on |
 | `log` | the lines of a log, on which condition each is told |
 | `whole`, `following` | a trace that is whole, and one that is converted while it is written |
 | `suggesting`, `checker` | which normalisations a trace needs, by the program's answers |

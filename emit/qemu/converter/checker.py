@@ -3,18 +3,26 @@
 from __future__ import annotations
 
 import os
+import subprocess
 
 from converter.ending import Status, Unjudged
 from why.asking.program import Program, Unable, Verdict
 
-TOP = os.path.realpath(f"{__file__}/../../../..")
-BUILT = os.path.join(TOP, "crates/bbm_cli/out/bbm_cli")
+SCRIPT = os.path.realpath(f"{__file__}/../../../../bbm")
 SAY_NOTHING = ("malformed", "limit")  # the verdicts that are no answer to a log of the converter
 
 
 def program_of(asked: str | None) -> Program:
-    """The one that is named, or $BBM, or the built one, or the script that builds it."""
-    return Program(asked or os.environ.get("BBM") or (BUILT if os.path.exists(BUILT) else os.path.join(TOP, "bbm")))
+    """The one that is named, or $BBM, or the built one, of which the script knows whether its sources changed. Nothing is
+    built for it."""
+    return Program(asked or os.environ.get("BBM") or built())
+
+
+def built() -> str:
+    done = subprocess.run([SCRIPT, "--program"], stdout=subprocess.PIPE, text=True, check=False)
+    if done.returncode:
+        raise Unjudged(Status.FAULT, "there is no checker")
+    return done.stdout.strip()
 
 
 def judge(program: Program, text: str) -> tuple[str, Verdict]:

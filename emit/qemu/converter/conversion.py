@@ -15,7 +15,8 @@ from converter.telling import Sink, Telling
 from converter.tlbis import has_operand, has_word, is_by_asid, is_of_world, tlbi_name
 from converter.trees import Trees
 
-DSB = {15: "sy", 14: "st", 13: "ld", 11: "ish", 10: "ishst", 9: "ishld", 7: "nsh", 6: "nshst", 5: "nshld", 3: "osh", 2: "oshst", 1: "oshld"}
+DSB = {15: "sy", 14: "st", 13: "ld", 11: "ish", 10: "ishst", 9: "ishld", 7: "nsh", 6: "nshst", 5: "nshld", 3: "osh",
+       2: "oshst", 1: "oshld"}
 SPECULATION = (0, 4)  # SSBB and PSSBB, whose encodings are those of DSBs
 
 
@@ -27,8 +28,8 @@ class Plan(NamedTuple):
 
 
 class Conversion:
-    """Takes the lines of a trace in order, and hands each line of the log on, whatever normalisations are made: with the
-    number of the line it comes from, and the condition on which it is told."""
+    """Takes the lines of a trace in order, and hands each line of the log on, whatever normalisations are made: with
+    the number of the line it comes from, and the condition on which it is told."""
 
     def __init__(self, facts: Facts, plan: Plan, out: Sink) -> None:
         self.world, self.facts, self.form = facts.world, facts, plan.form
@@ -36,8 +37,9 @@ class Conversion:
         self.trees = trees = Trees(facts, plan.form, self.telling, self.pes)
         self.registers = Registers(facts, plan.form, self.telling, self.pes, trees)
         self.takers: dict[str, Callable[[Record], None]] = {
-            "b": self.take_dsb, "x": self.take_dsb_nxs, "i": self.take_isb, "t": self.take_tlbi, "m": self.registers.take,
-            "n": trees.take_new_table, "c": trees.take_contents, "r": trees.take_root, "a": trees.take_linked_again,
+            "b": self.take_dsb, "x": self.take_dsb_nxs, "i": self.take_isb, "t": self.take_tlbi,
+            "m": self.registers.take, "n": trees.take_new_table, "c": trees.take_contents, "r": trees.take_root,
+            "a": trees.take_linked_again,
             "w": trees.take_write, "d": trees.take_dead_root, "u": trees.take_reuse, "k": self.take_lock,
             "l": self.take_unlock, "g": trees.take_lock_of_root, "v": trees.take_end_of_root, "#": lambda _: None}
 

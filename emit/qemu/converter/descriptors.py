@@ -26,8 +26,8 @@ def is_leaf(level: int, value: int) -> bool:
 
 @dataclass
 class Descriptors:
-    """A descriptor by its meaning: AttrIndx is the least index that has the same attributes in the MAIR of each PE, and the
-    Contiguous bit is told on condition."""
+    """A descriptor by its meaning: AttrIndx is the least index that has the same attributes in the MAIR of each PE, and
+    the Contiguous bit is told on condition."""
 
     telling: Telling
     attributes: dict[str, bytes] = field(default_factory=dict)

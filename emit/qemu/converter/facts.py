@@ -19,8 +19,8 @@ HEADED = "rwmd#"  # the lines by which a header is found
 
 
 class Facts:
-    """What the header, and the kind of some roots, need; gathered over the trace, or over its first part. `guests` has what
-    is known of guests."""
+    """What the header, and the kind of some roots, need; gathered over the trace, or over its first part. `guests` has
+    what is known of guests."""
 
     def __init__(self, world: World, symbols: Symbols, is_whole: bool = False) -> None:
         self.world, self.symbols, self.guests = world, symbols, Guests(is_whole)
@@ -98,7 +98,8 @@ class Facts:
         self.is_complete = self.is_complete or line.startswith("# end")
         found = re.match(r"# told: (\d+) records", line)
         if found and int(found.group(1)) != self.records:
-            raise Unjudged(Status.DAMAGED, f"the trace has {self.records} records, and says that it has {found.group(1)}")
+            raise Unjudged(Status.DAMAGED,
+                           f"the trace has {self.records} records, and says that it has {found.group(1)}")
 
     def is_known(self) -> bool:
         """Whether a root is loaded, and the registers say what the header has to have of roots."""
@@ -129,7 +130,8 @@ class Facts:
 
     def header(self, allow: Collection[str]) -> str:
         """The header, with the words that are allowed."""
-        words = ["cnp"] * (self.cnp and "no-cnp" not in allow) + [word for word in normalisations.WORDS if word in allow]
+        words = ["cnp"] * (self.cnp and "no-cnp" not in allow)
+        words += [word for word in normalisations.WORDS if word in allow]
         form = self.form_at_start if "snapshot" in allow else self.first_form
         return (form or self.form()).header(self.pes, words)
 

@@ -13,7 +13,8 @@ HEADER = re.compile(r"bbmlog \d+ (?:hyp \d+ ([012]) ([012]) (\d+)|kernel \d+ ([0
 
 
 class Start(NamedTuple):
-    """Of which form a root is: the level at which it starts, less than 0 for 52 bits of address, and the number of its pages."""
+    """Of which form a root is: the level at which it starts, less than 0 for 52 bits of address, and the number of its
+    pages."""
 
     level: int
     pages: int
@@ -23,8 +24,8 @@ class Start(NamedTuple):
 
 
 class Form(NamedTuple):
-    """For each kind of root its start level, the number of pages of a root of stage 2, and the register that names the ASID
-    (None in the world Hyp)."""
+    """For each kind of root its start level, the number of pages of a root of stage 2, and the register that names the
+    ASID (None in the world Hyp)."""
 
     levels: tuple[int, int]
     pages: int

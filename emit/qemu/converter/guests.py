@@ -12,7 +12,8 @@ from converter.worlds import BASE, is_host
 
 @dataclass(frozen=True)
 class Store:
-    """A store to a table of stage 2: its line, the table's root, and the writes of VTTBR_EL2 that a PE had loaded it by."""
+    """A store to a table of stage 2: its line, the table's root, and the writes of VTTBR_EL2 that a PE had loaded it
+    by."""
 
     index: int
     root: int
@@ -49,14 +50,15 @@ class Guests:
         self.hosts[pe] = is_host(value)
 
     def add_use(self, index: int, record: Record) -> None:
-        """A PE is, or was until now, below EL2, with the value of VTTBR_EL2 that it has. A program of a host with VHE, at EL0
-        of its regime EL2&0, has none of it in use."""
+        """A PE is, or was until now, below EL2, with the value of VTTBR_EL2 that it has. A program of a host with VHE,
+        at EL0 of its regime EL2&0, has none of it in use."""
         if (record.fields[2] in "01" or record.came_from_below()) and not self.hosts.get(record.pe):
             self.used[self.loads.get(record.pe)] = index
 
     def add_store(self, index: int, code: int, root: int) -> None:
-        """A store to a table of stage 2. The guest lives where a PE has its root loaded, or loads it afterwards. A host with VHE
-        lets VTTBR_EL2 stand when the guest is dead: there it lives where the PE comes below EL2 with that value afterwards."""
+        """A store to a table of stage 2. The guest lives where a PE has its root loaded, or loads it afterwards. A host
+        with VHE lets VTTBR_EL2 stand when the guest is dead: there it lives where the PE comes below EL2 with that
+        value afterwards."""
         having = [pe for pe, base in self.named.items() if base == root]
         if any(not self.hosts.get(pe) for pe in having):
             self.table_code.add(code)
@@ -70,7 +72,8 @@ class Guests:
                 self.table_code.add(code)
 
     def lives_behind(self, store: Store) -> bool:
-        return self.is_loaded_after(store.root, store.index) or any(self.used.get(load, -1) > store.index for load in store.loads)
+        is_loaded = self.is_loaded_after(store.root, store.index)
+        return is_loaded or any(self.used.get(load, -1) > store.index for load in store.loads)
 
     def is_loaded_after(self, root: int, index: int) -> bool:
         """Whether a root is loaded again before its page has another use."""
@@ -79,5 +82,6 @@ class Guests:
         return at < len(life) and life[at][1]
 
     def is_used_after(self, load: int | None, index: int) -> bool:
-        """Whether the value of VTTBR_EL2 that was written at a line is in use behind another one; true where it isn't known."""
+        """Whether the value of VTTBR_EL2 that was written at a line is in use behind another one; true where it isn't
+        known."""
         return not self.is_whole or self.used.get(load, -1) > index

@@ -3,7 +3,7 @@
 from __future__ import annotations
 
 from bisect import bisect_right
-from collections.abc import Collection, Sequence
+from collections.abc import Collection, Mapping, Sequence
 from dataclasses import dataclass, field
 
 from converter import normalisations
@@ -14,7 +14,8 @@ HELD, ADDED = "held", "added"
 
 @dataclass
 class Log:
-    """For each line the number of the trace's line that it comes from, and for some the condition on which it is told."""
+    """For each line the number of the trace's line that it comes from, and for some the condition on which it is
+    told."""
 
     lines: list[str] = field(default_factory=list)
     origins: list[int] = field(default_factory=list)
@@ -29,7 +30,8 @@ class Log:
     def told(self, allow: Collection[str], upto: int | None = None) -> list[int]:
         """The numbers of the lines that are told with these normalisations, up to those of one line of the trace."""
         end = len(self.lines) if upto is None else bisect_right(self.origins, upto)
-        return [number for number in range(end) if number not in self.conditions or holds(self.conditions[number], allow)]
+        conditions: Mapping[int, Condition] = self.conditions
+        return [number for number in range(end) if holds(conditions.get(number, {}), allow)]
 
     def text(self, header: str, numbers: Sequence[int], has_end: bool = True) -> str:
         end = [f"end {len(numbers)}"] if has_end else []
@@ -42,8 +44,8 @@ class Log:
 
 
 def kind_of(line: str) -> str:
-    """The word of a line of a log; but HELD for what a table held when it became known, and ADDED for what a normalisation
-    adds."""
+    """The word of a line of a log; but HELD for what a table held when it became known, and ADDED for what a
+    normalisation adds."""
     event, _, label = line.partition(" @")
     word = event[:event.index(" ")]
     if label in ("contents", "snapshot"):

@@ -6,8 +6,8 @@ FROM_BELOW = 0x400  # the half of the vectors that an exception from a lower EL 
 
 
 class Record:
-    """`OP PE EL PC PHYSICAL-PC REST..`, or `c INDEX VALUE`, whose fields are read alone. A field is read when it is asked for,
-    since most lines are barriers of which little is."""
+    """`OP PE EL PC PHYSICAL-PC REST..`, or `c INDEX VALUE`, whose fields are read alone. A field is read when it is
+    asked for, since most lines are barriers of which little is."""
 
     __slots__ = ("fields",)
 
@@ -49,4 +49,5 @@ class Record:
 
     def came_from_below(self) -> bool:
         """Whether it is an exception to EL2 from a lower EL, by which half of the vectors it was taken."""
-        return self.fields[0] == "i" and self.fields[2] == "2" and self.fields[5:6] == ["0"] and self.pc & FROM_BELOW != 0
+        is_exception = self.fields[0] == "i" and self.fields[2] == "2" and self.fields[5:6] == ["0"]
+        return is_exception and self.pc & FROM_BELOW != 0

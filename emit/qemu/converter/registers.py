@@ -20,8 +20,8 @@ NULL_PAGE = 0  # the base of a VTTBR_EL2 by which no walk is made: of a machine 
 class Registers:
     def __init__(self, facts: Facts, form: Form, telling: Telling, pes: Pes, trees: Trees) -> None:
         self.world, self.form, self.telling, self.pes, self.trees = facts.world, form, telling, pes, trees
-        # The normalisations for which the null page was told; T1SZ of other upper ranges than a log has, and whether a root
-        # register has CnP.
+        # The normalisations for which the null page was told; T1SZ of other upper ranges than a log has, and whether a
+        # root register has CnP.
         self.has_null: set[str] = set()
         self.upper_sizes: set[int] = set()
         self.has_cnp = False
@@ -126,7 +126,8 @@ class Registers:
         return ["stage2-off"] * (not self.pes.stage2_on.get(pe)) + ["out-of-context"] * (not self.trees.is_used(pe))
 
     def take_exception(self, record: Record) -> None:
-        """An exception to EL2: a value with which EL2 never returns is out of use, though it may stand there for long."""
+        """An exception to EL2: a value with which EL2 never returns is out of use, though it may stand there for
+        long."""
         pe = record.pe
         value = self.pes.registers[pe].get("vttbr_el2", 0)
         if not (value & BASE and record.came_from_below()) or self.pes.hosts.get(pe) or self.trees.is_used(pe):

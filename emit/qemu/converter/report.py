@@ -1,6 +1,6 @@
 # SPDX-License-Identifier: Apache-2.0 OR GPL-2.0-or-later
-"""What is told of a log: what it says otherwise than the machine did, what it leaves out, what it can't say, and what is
-judged."""
+"""What is told of a log: what it says otherwise than the machine did, what it leaves out, what it can't say, and what
+is judged."""
 from __future__ import annotations
 
 from collections import Counter
@@ -16,14 +16,14 @@ from converter.worlds import World
 OTHER_GRANULES = {1: 64, 2: 16}  # TCR.TG0, in KiB
 ALWAYS = {
     "AttrIndx": "told as the least index that has the same byte in MAIR",
-    "unroot": "told at the first other use of a root's page, while no register names it, or, but with --follow, of any page of a "
-    "root of stage 2 that is in use nowhere and is never loaded again; when it was given up isn't known",
+    "unroot": "told at the first other use of a root's page, while no register names it, or, but with --follow, of any "
+    "page of a root of stage 2 that is in use nowhere and is never loaded again; when it was given up isn't known",
 }
 
 
 def misfits(conversion: Conversion, header: str, allow: Collection[str]) -> list[str]:
-    """What a log can't say, or the header of this one doesn't: with any of it the log would be judged by wrong addresses, or
-    refused for its header."""
+    """What a log can't say, or the header of this one doesn't: with any of it the log would be judged by wrong
+    addresses, or refused for its header."""
     had = conversion.form.of_kinds()
     told = [f"T1SZ is {size}, an upper range of {64 - size} bits of address: a log has 48, 39 or 30 (16, 25 or 34)"
             for size in sorted(conversion.registers.upper_sizes)]
@@ -31,12 +31,20 @@ def misfits(conversion: Conversion, header: str, allow: Collection[str]) -> list
         told.append(f"roots of {kind} that start {start}, {count} times: "
                     + (f"the header has those that start {had[kind]}" if start.level >= 0 else
                        "52 bits of address, which no log has. For Linux: -cpu max,lpa2=off"))
-    if conversion.world.has_el2 and conversion.pes.was_host:
-        told.append("HCR_EL2 has E2H and TGE: a hypervisor with VHE, whose own tables and TLBIs aren't those of this world. The "
-                    "world stage2 has its guests, and the world vhe its own tables")
     if conversion.registers.has_cnp and "cnp" not in header.split() and "no-cnp" not in allow:
         told.append("a root register has CnP, and the header, which was written before, says that none has")
+    if told:
+        told.append("one header holds for a whole log, so it would be judged by wrong addresses")
+    if is_of_host(conversion):
+        told.append("HCR_EL2 has E2H and TGE: a hypervisor with VHE, whose own tables and TLBIs aren't those of this "
+                    "world. The world stage2 has its guests, and the world vhe its own tables")
     return told
+
+
+def is_of_host(conversion: Conversion) -> bool:
+    """Whether a log of a hypervisor without VHE is asked for, and it has VHE: then the same TLBIs are of other
+    regimes."""
+    return conversion.world.has_el2 and conversion.pes.was_host
 
 
 def granules(conversion: Conversion) -> list[int]:
@@ -53,11 +61,12 @@ def told_otherwise(conversion: Conversion, header: str, allow: Collection[str]) 
         if word in header.split():
             tell(about(word))
     if "contiguous" in allow and conversion.trees.descriptors.contiguous_at_stage2:
-        tell(f"contiguous, {conversion.trees.descriptors.contiguous_at_stage2} times at stage 2: a change of the Contiguous bit there "
-             "isn't judged")
+        tell(f"contiguous, {conversion.trees.descriptors.contiguous_at_stage2} times at stage 2: a change of the "
+             "Contiguous bit there isn't judged")
 
 
-def report(conversion: Conversion, header: str, allow: Collection[str], judged: Counter[str], remarks: Iterable[str]) -> Status:
+def report(conversion: Conversion, header: str, allow: Collection[str], judged: Counter[str],
+           remarks: Iterable[str]) -> Status:
     """Says all of it, with what the trace itself doesn't tell. Answers the exit status."""
     told_otherwise(conversion, header, allow)
     for what, count in sorted(conversion.telling.told.items()):
@@ -89,18 +98,19 @@ def report_judged(world: World, judged: Counter[str], wrong: Collection[str], is
     for text in wrong:
         tell(text)
     if wrong:
-        tell("one header holds for a whole log, so it would be judged by wrong addresses. There is no log, or one without an end")
+        tell("there is no log, or one without an end")
         return Status.OTHER_FORMS
     if missing:
         tell(f"there is nothing to accept: the log has no {' and no '.join(missing)} of the world {world.name}")
         return Status.NOTHING_JUDGED
     if not is_complete:
-        tell("the trace has no end, so the log has none: QEMU was ended, or still runs, or the trace couldn't be written. "
-             "bbm partial judges what is there")
+        tell("the trace has no end, so the log has none: QEMU was ended, or still runs, or the trace couldn't be "
+             "written. bbm partial judges what is there")
         return Status.NO_END
     return Status.DONE
 
 
 def remarks_of(lines: Iterable[str]) -> list[str]:
     """What the plugin says at the end of a trace."""
-    return [line[2:] for line in lines if line.startswith("# ") and not line.startswith(("# bbm_trace", "# SPDX", "# end"))]
+    others = ("# bbm_trace", "# SPDX", "# end")
+    return [line[2:] for line in lines if line.startswith("# ") and not line.startswith(others)]

@@ -28,11 +28,12 @@ def convert(facts: Facts, plan: Plan, lines: Sequence[str]) -> tuple[Conversion,
 
 
 class Search:
-    """A trace that is converted once, and once more where its log begins late, and judged with as many normalisations as
-    need be."""
+    """A trace that is converted once, and once more where its log begins late, and judged with as many normalisations
+    as need be."""
 
     def __init__(self, asked: Asked, lines: Sequence[str], facts: Facts) -> None:
-        self.program, self.given_header = program_of(asked.check), asked.header
+        self.program = program_of(asked.check) if asked.suggest else None
+        self.given_header = asked.header
         self.world, self.lines, self.facts = asked.world, lines, facts
         self.names = [name for name in normalisations.of_world(normalisations.ALL, asked.world.name)
                       if name != "snapshot" and normalisations.is_of_version(name, asked.header)]
@@ -60,6 +61,7 @@ class Search:
 
     def verdict(self, allow: Collection[str], upto: int | None = None) -> tuple[str, int | None]:
         """The answer, and the line of the trace that it is about, or None where the log is accepted."""
+        assert self.program
         numbers = self.log.told(allow, upto)
         answer, verdict = judge(self.program, self.log.text(self.header(allow), numbers))
         if not verdict.line:
@@ -77,8 +79,8 @@ class Search:
         return can_begin_late and bool(self.misfits(allow))
 
     def sets(self, allow: Collection[str], origin: int) -> Iterator[list[str]]:
-        """What may get past a line of the trace: the fewest first, of those without a further word of the header before all
-        others."""
+        """What may get past a line of the trace: the fewest first, of those without a further word of the header before
+        all others."""
         made = self.log.names_before(origin)
         others = [name for name in self.names if name in made and name not in allow]
         words = [word for word in self.words if word not in allow]
@@ -90,7 +92,8 @@ class Search:
 
     def past(self, allow: Collection[str], origin: int) -> list[str]:
         """The first of these with which the log gets past a line of the trace, or nothing."""
-        return next((names for names in self.sets(allow, origin) if names and self.verdict([*allow, *names], origin)[1] is None), [])
+        sets = (names for names in self.sets(allow, origin) if names)
+        return next((names for names in sets if self.verdict([*allow, *names], origin)[1] is None), [])
 
     def needless(self, allow: Collection[str], given: Collection[str]) -> str | None:
         """One that a later one has made needless."""

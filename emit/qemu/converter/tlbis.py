@@ -20,6 +20,7 @@ BY_IPA = {(0, 1): "ipas2e1is", (0, 5): "ipas2le1is", (0, 2): "ripas2e1is", (0, 6
           (4, 1): "ipas2e1", (4, 5): "ipas2le1", (4, 2): "ripas2e1", (4, 6): "ripas2le1"}
 WITHOUT_OPERAND = re.compile("vmalle1|alle1|alle2|vmalls12e1")
 BY_ASID = re.compile("aside|r?vae|r?vale")
+OF_STAGE1_OF_EL1 = re.compile("aside1|r?vaa?l?e1")
 AT_EL2 = re.compile("r?vae2|r?vale2|alle2")
 
 
@@ -47,6 +48,14 @@ def has_operand(name: str) -> bool:
     return not WITHOUT_OPERAND.match(name)
 
 
+def range_operand(asid: int, address: int, pages: int) -> int:
+    """The operand of a range TLBI by address for so many pages of 4 KiB from an address on, any level, where one has
+    such: (NUM + 1) << (5 * SCALE + 1) pages."""
+    scale = max(0, (pages.bit_length() - 2) // 5)
+    number = (pages >> (5 * scale + 1)) - 1
+    return asid << 48 | 1 << 46 | scale << 44 | number << 39 | address >> 12 & (1 << 37) - 1
+
+
 def is_by_asid(name: str) -> bool:
     return BY_ASID.match(name) is not None
 
@@ -60,9 +69,10 @@ def is_of_stage2(name: str) -> bool:
 
 
 def is_of_world(world: World, name: str, el: int, is_host: bool) -> bool:
-    """Whether a TLBI at an EL is one of a world, by whether its PE is in a host with VHE, or isn't known not to be."""
+    """Whether a TLBI at an EL is one of a world, by whether its PE is in a host with VHE, or isn't known not to be. A
+    log of the world Hyp has no word for one that takes stage 1 of EL1&0 by address or by ASID."""
     if world.has_el2:
-        return el == 2
+        return el == 2 and not OF_STAGE1_OF_EL1.match(name)
     if world.is_hyp:
         return el == 2 and (is_of_stage2(name) or (name.startswith("vmalle1") and not is_host))
     if el != world.el or is_of_stage2(name) or is_of_el2(name):

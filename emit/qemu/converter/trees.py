@@ -3,7 +3,6 @@
 from __future__ import annotations
 
 from collections import Counter
-from collections.abc import Iterable
 from dataclasses import dataclass, field
 
 from converter.descriptors import Descriptors, is_table
@@ -13,9 +12,15 @@ from converter.forms import Form, Start
 from converter.pes import Pes
 from converter.records import Record
 from converter.telling import Telling
+from converter.tlbis import range_operand
 from converter.worlds import BASE, Kind
 
-PAGE_SIZE = 4096
+PAGE_SIZE, LEVELS = 4096, 4
+
+
+def size_shift(level: int) -> int:
+    """How many bits of an address are below what an entry of a table at a level stands for."""
+    return 39 - 9 * level
 
 
 @dataclass
@@ -25,6 +30,8 @@ class Table:
     level: int
     kind: int
     root: int
+    # The page of the table that links it, and at which index, as it was last.
+    parent: tuple[int, int] | None = None
     entries: dict[int, int] = field(default_factory=dict)
     is_told: bool = False
     is_empty: bool = True
@@ -63,7 +70,7 @@ class Trees:
         self.named, before = (page, record.pe), self.tables.get(page)
         if before and before.is_told:
             self.note_other_use(record, before)
-            self.flush_moved(record.pe, before)
+            self.flush_moved(record, page, before)
         table = self.tables[page] = Table(level, kind, root)
         if not self.telling.started or kind not in self.world.kinds:
             return
@@ -76,6 +83,7 @@ class Trees:
         table = self.tables[page]
         index, value = int(record.fields[1]), int(record.fields[2], 16)
         table.is_empty = False
+        self.note_link(page, table, index, value)
         if table.is_told:
             self.descriptors.tell(f"w {pe} 0x{page + 8 * index:x}", value, table.level, table.kind, mark=" @contents")
         else:
@@ -88,7 +96,9 @@ class Trees:
         table = self.tables.get(page)
         if table is None:
             return
-        if table.kind == Kind.VTTBR_EL2 and record.code not in self.guests.table_code and not self.pes.is_named(table.root):
+        self.note_link(page, table, place >> 3 & 511, value)
+        is_known = record.code in self.guests.table_code or self.pes.is_named(table.root)
+        if table.kind == Kind.VTTBR_EL2 and not is_known:
             self.note_other_use(record, table)
         if table.is_told and table.root in self.given_up:
             self.telling.leave_out("store to a table of a root that was given up")
@@ -102,8 +112,8 @@ class Trees:
         """Ends where a page is written that was told as a null one. The whole trace shows it beforehand."""
         root = self.roots.get(page)
         if root and root.is_null:
-            raise Unjudged(Status.OTHER_FORMS, f"the root 0x{page:x} was empty when it was loaded, so the log has it as a null page, "
-                           "and now it is written. Without --follow it can be judged")
+            raise Unjudged(Status.OTHER_FORMS, f"the root 0x{page:x} was empty when it was loaded, so the log has it "
+                           "as a null page, and now it is written. Without --follow it can be judged")
 
     def take_linked_again(self, record: Record) -> None:
         page, kind, root = record.value(0), record.number(2), record.value(3)
@@ -131,7 +141,8 @@ class Trees:
         self.telling.emit(f"init {pe} 0x{page:x} @snapshot")
         for index, value in sorted(table.entries.items()):
             if value:
-                self.descriptors.tell(f"w {pe} 0x{page + 8 * index:x}", value, table.level, table.kind, mark=" @snapshot")
+                line = f"w {pe} 0x{page + 8 * index:x}"
+                self.descriptors.tell(line, value, table.level, table.kind, mark=" @snapshot")
         table.entries.clear()
 
     # ---- roots
@@ -191,9 +202,10 @@ class Trees:
             self.telling.emit(f"unroot {record.pe} 0x{page:x}", record)
 
     def note_other_use(self, record: Record, table: Table) -> None:
-        """A table of stage 2 is used for something else, or stored to by code that stores to no table of a living guest.
-        Where no PE uses its root, and none ever loads it again, the root was given up."""
-        if not self.guests.is_whole or table.kind != Kind.VTTBR_EL2 or not table.is_told or table.root not in self.roots:
+        """A table of stage 2 is used for something else, or stored to by code that stores to no table of a living
+        guest. Where no PE uses its root, and none ever loads it again, the root was given up."""
+        is_root_known = self.guests.is_whole and table.root in self.roots
+        if table.kind != Kind.VTTBR_EL2 or not table.is_told or not is_root_known:
             return
         used = any(self.pes.stage2_on.get(pe) and self.is_used(pe) for pe in self.pes.loaded_at(table.root))
         if not used and not self.guests.is_loaded_after(table.root, self.telling.index):
@@ -205,19 +217,32 @@ class Trees:
 
     # ---- tables that move
 
-    def flush_moved(self, pe: str, table: Table) -> None:
-        """A page is linked at another place as it is, as where a kernel moves a whole table of a program's stack."""
-        root = self.roots.get(table.root)
-        if root:
-            self.telling.emit(f"dsb {pe} ishst @moved-tables", condition={"moved-tables": True})
-            self.flush_asids(pe, root.asids, "moved-tables")
+    def note_link(self, page: int, table: Table, index: int, value: int) -> None:
+        """An entry of a table: which table it links, if any."""
+        linked = self.tables.get(value & BASE) if is_table(table.level, value) else None
+        if linked:
+            linked.parent = page, index
 
-    def flush_asids(self, pe: str, asids: Iterable[int], name: str) -> None:
-        own = set(asids)
-        if not own:
+    def address_of(self, page: int) -> int | None:
+        """The first input address that a table translates, in the lower range, or None where its tree isn't known."""
+        table, address, above = self.tables.get(page), 0, 0
+        while table and table.parent and above <= LEVELS:
+            parent, index = table.parent
+            table, above = self.tables.get(parent), above + 1
+            address += index << size_shift(table.level) if table else 0
+        return address if table and not table.parent else None
+
+    def flush_moved(self, record: Record, page: int, table: Table) -> None:
+        """A page is linked at another place as it is, as where a kernel moves a whole table of a program's stack: what
+        its old place translated is flushed, for each ASID of its root, and nothing else."""
+        root, address = self.roots.get(table.root), self.address_of(page)
+        if root is None or address is None or not root.asids:
             return
-        condition, even = self.telling.normalised(name), {asid & ~1 for asid in own}
-        for asid in sorted(own | even):
-            of_pair = {} if asid in own & even else {"kpti": asid in even}
-            self.telling.emit(f"tlbi {pe} aside1is 0x{asid << 48:x} @{name}", condition={**condition, **of_pair})
+        name, pe = "moved-tables", record.pe
+        condition, even = self.telling.normalised(name), {asid & ~1 for asid in root.asids}
+        self.telling.emit(f"dsb {pe} ishst @{name}", condition=condition)
+        for asid in sorted(root.asids | even):
+            of_pair = {} if asid in root.asids & even else {"kpti": asid in even}
+            operand = range_operand(asid, address, 1 << size_shift(table.level) + 9 - 12)
+            self.telling.emit(f"tlbi {pe} rvae1is 0x{operand:x} @{name}", condition={**condition, **of_pair})
         self.telling.emit(f"dsb {pe} ish @{name}", condition=condition)

@@ -20,10 +20,13 @@ def make_log(asked: Asked, symbols: Symbols, out: TextIO) -> Status:
     lines = list(read_lines(asked.trace))
     facts = facts_of(asked.world, symbols, lines)
     if "snapshot" in asked.allow and facts.start is None:
-        raise Unjudged(Status.NOTHING_JUDGED, f"no {asked.world.first} was ever loaded, so a log that begins there is empty")
+        raise Unjudged(Status.NOTHING_JUDGED,
+                       f"no {asked.world.first} was ever loaded, so a log that begins there is empty")
     search = Search(asked, lines, facts)
-    is_accepted = not asked.suggest or bool(missing_from(search.judged(asked.allow))) or Suggesting(search, asked.allow).is_accepted()
-    status = report(search.conversion, search.header(asked.allow), asked.allow, search.judged(asked.allow), remarks_of(lines))
+    has_nothing = bool(missing_from(search.judged(asked.allow)))
+    is_accepted = not asked.suggest or has_nothing or Suggesting(search, asked.allow).is_accepted()
+    header, judged = search.header(asked.allow), search.judged(asked.allow)
+    status = report(search.conversion, header, asked.allow, judged, remarks_of(lines))
     if status not in WRITTEN:
         return status
     write_log(asked, search, out, has_end=status is Status.DONE)

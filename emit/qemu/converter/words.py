@@ -57,20 +57,21 @@ def parser(about: str | None) -> Words:
 
 
 def read_words(about: str | None) -> Asked | None:
-    """What is asked for, or None where the normalisations are to be listed."""
+    """What is asked for, or None where it was to list the normalisations, which is done."""
     words = parser(about)
     given = words.parse_args()
     allow, headed = ([name for name in some.split(",") if name] for some in (given.allow, given.words))
     refuse_header(words, given.header, given.world, headed)
     refuse_others(words, given.world, given.header, allow, headed)
     if given.list:
+        print("\n".join(normalisations.listed(given.world)))
         return None
     if not given.trace:
         words.error("WORLD and TRACE are needed")
     if "out-of-context" in allow and given.follow:
         words.error("out-of-context looks ahead over the trace, so --follow can't do it")
-    return Asked(WORLDS[given.world], given.trace, given.log, given.symbols, given.functions, [*allow, *headed], given.header,
-                 given.follow, given.suggest, given.check)
+    return Asked(WORLDS[given.world], given.trace, given.log, given.symbols, given.functions, [*allow, *headed],
+                 given.header, given.follow, given.suggest, given.check)
 
 
 def refuse_header(words: Words, header: str, world: str | None, headed: Collection[str]) -> None:
@@ -98,6 +99,7 @@ def refuse_others(words: Words, world: str | None, header: str, allow: Iterable[
 
 
 def read_lines(path: str) -> Iterator[str]:
-    with ends_with(Status.CANT_READ, path), open(0 if path == STANDARD_INPUT else path, encoding="latin-1", newline="\n") as file:
+    source: int | str = 0 if path == STANDARD_INPUT else path
+    with ends_with(Status.CANT_READ, path), open(source, encoding="latin-1", newline="\n") as file:
         # A line that was cut when QEMU was ended has no newline, and is the last.
         yield from (line[:-1] for line in file if line.endswith("\n"))

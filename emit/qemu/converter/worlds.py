@@ -29,8 +29,8 @@ class Told:
 
 @dataclass(frozen=True)
 class World:
-    """What belongs to a world: the form of its header, the words of its roots by their kind, its root registers, the EL that
-    maintains them, and what is first loaded in it."""
+    """What belongs to a world: the form of its header, the words of its roots by their kind, its root registers, the EL
+    that maintains them, and what is first loaded in it."""
 
     name: str
     form: str
@@ -80,7 +80,8 @@ WORLDS = {world.name: world for world in (
 
 
 def is_host(hcr: int) -> bool:
-    """Whether EL2 and EL0 are one regime of a host, EL2&0, by HCR_EL2: then TLBIs of stage 1 are of that, and not of EL1&0."""
+    """Whether EL2 and EL0 are one regime of a host, EL2&0, by HCR_EL2: then TLBIs of stage 1 are of that, and not of
+    EL1&0."""
     return hcr & (E2H | TGE) == E2H | TGE
 
 
