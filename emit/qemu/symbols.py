@@ -123,11 +123,12 @@ class Symbols:
 
     def learn(self, line: str) -> None:
         """Takes from a line of a trace where code runs, if that isn't known yet."""
-        if not self.known or line[:1] in ("", "#", "c") or (self.move is not None and self.shift is not None):
+        may_show_move = self.move is None and line.startswith("i") and line.endswith(" 0")
+        if not self.known or line[:1] in ("", "#", "c") or not (self.shift is None or may_show_move):
             return
         fields = line.split(" ", 6)
         pc, physical = (int(field, 16) for field in fields[3:5])
-        if self.move is None and self.vectors is not None and fields[0] == "i" and fields[5:6] == ["0"]:
+        if may_show_move and self.vectors is not None:
             move = (pc & ~WITHIN_VECTORS) - self.vectors
             self.move = move if move % MOVES == 0 else None
         if self.shift is None and physical and self.holds(self.as_linked(pc)):

@@ -15,7 +15,7 @@ from converter.worlds import Kind, World
 from symbols import Symbols
 
 ANY_PE = "any"
-HEADED = "rwmd#"  # the lines by which a header is found
+HEADED = "rwmd"  # the lines by which a header is found
 
 
 class Facts:
@@ -45,29 +45,32 @@ class Facts:
     def take(self, index: int, line: str) -> None:
         """Takes what a line tells of the whole trace, and where code runs."""
         self.learn(index, line)
+        shows_use = self.guests.is_whole and self.world.is_hyp
         try:
-            if line[0] in HEADED:
-                self.add(index, line)
-            if self.guests.is_whole and self.world.is_hyp and line[0] not in "c#":
-                self.guests.add_use(index, Record(line))
+            if line[0] == "#":
+                self.add_remark(line)
+            elif line[0] in HEADED or (shows_use and line[0] != "c"):
+                record = Record(line)
+                self.add(index, line[0], record)
+                if shows_use:
+                    self.guests.add_use(index, record)
         except (LookupError, ValueError) as error:
             raise unreadable(index, line) from error
 
-    def add(self, index: int, line: str) -> None:
-        if line[0] == "#":
-            found = re.search(r"PEs (\d+)", line)
-            self.pes = int(found.group(1)) if found else self.pes
-            return
-        record = Record(line)
-        if line[0] in "rd":
+    def add_remark(self, line: str) -> None:
+        found = re.search(r"PEs (\d+)", line)
+        self.pes = int(found.group(1)) if found else self.pes
+
+    def add(self, index: int, op: str, record: Record) -> None:
+        if op in "rd":
             self.guests.add_root(index, record.value(0))
-        if line[0] == "r":
+        if op == "r":
             self.starts[record.number(2)][Start(max(0, record.number(1)), record.number(3))] += 1
-        elif line[0] == "w":
+        elif op == "w":
             self.written.add(record.value(0) & ~4095)
             if record.number(3) == Kind.VTTBR_EL2:
                 self.guests.add_store(index, record.code, record.value(4))
-        elif line[0] == "m":
+        elif op == "m":
             self.add_register(index, record)
 
     def add_register(self, index: int, record: Record) -> None:

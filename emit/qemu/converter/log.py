@@ -3,7 +3,7 @@
 from __future__ import annotations
 
 from bisect import bisect_right
-from collections.abc import Collection, Mapping, Sequence
+from collections.abc import Collection, Sequence
 from dataclasses import dataclass, field
 
 from converter import normalisations
@@ -30,8 +30,8 @@ class Log:
     def told(self, allow: Collection[str], upto: int | None = None) -> list[int]:
         """The numbers of the lines that are told with these normalisations, up to those of one line of the trace."""
         end = len(self.lines) if upto is None else bisect_right(self.origins, upto)
-        conditions: Mapping[int, Condition] = self.conditions
-        return [number for number in range(end) if holds(conditions.get(number, {}), allow)]
+        some = self.conditions
+        return [number for number in range(end) if number not in some or holds(some[number], allow)]
 
     def text(self, header: str, numbers: Sequence[int], has_end: bool = True) -> str:
         end = [f"end {len(numbers)}"] if has_end else []

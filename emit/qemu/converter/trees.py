@@ -97,8 +97,7 @@ class Trees:
         if table is None:
             return
         self.note_link(page, table, place >> 3 & 511, value)
-        is_known = record.code in self.guests.table_code or self.pes.is_named(table.root)
-        if table.kind == Kind.VTTBR_EL2 and not is_known:
+        if table.kind == Kind.VTTBR_EL2 and not self.may_live(record, table):
             self.note_other_use(record, table)
         if table.is_told and table.root in self.given_up:
             self.telling.leave_out("store to a table of a root that was given up")
@@ -107,6 +106,10 @@ class Trees:
             self.descriptors.tell(f"w {record.pe} 0x{place:x}", value, table.level, table.kind, record)
         else:
             table.entries[place >> 3 & 511] = value
+
+    def may_live(self, record: Record, table: Table) -> bool:
+        """Whether a store to a table of stage 2 may be one to that of a living guest."""
+        return record.code in self.guests.table_code or self.pes.is_named(table.root)
 
     def refuse_null(self, page: int) -> None:
         """Ends where a page is written that was told as a null one. The whole trace shows it beforehand."""
