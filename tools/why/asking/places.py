@@ -22,7 +22,7 @@ from dataclasses import dataclass, field, replace
 from functools import cached_property
 from itertools import count, islice
 
-from why.log.lines import ADDRESS_BITS, Event, Header, Locks, event_of, header_of
+from why.log.lines import ADDRESS_BITS, Before, Event, Header, Locks, Log, event_of, header_of
 from why.asking.program import Answer, Program, Unable
 
 BREAK_BEFORE_MAKE, NO_LOCK, PAGE_IN_USE = 4, 2, 10
@@ -211,6 +211,12 @@ class Asker:
                 found.append(replace(now[position], phases=answer.phases))
             left, writer = left[position + 1 if position < len(now) else len(now):], 0
         return found
+
+
+def phases_after(program: Program, log: Log, last: int, place: int) -> tuple[str, ...]:
+    """How far a place has come at each PE behind a line; none where it holds nothing."""
+    before = Before(log, last)
+    return next((one.phases for one in Asker(program, before, tables_of(before)).found([Place(place)])), ())
 
 
 def stale_places(program: Program, front) -> list[Place]:

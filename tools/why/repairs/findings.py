@@ -10,6 +10,7 @@ from collections.abc import Iterable
 from dataclasses import dataclass, field, replace
 from enum import Enum
 
+from why.asking.danger import Danger, danger_of
 from why.asking.program import Answer, Program
 from why.log.lines import Log, Numbers
 from why.repairs.changes import NOTHING, Change, edited
@@ -30,8 +31,8 @@ class Stop(Enum):
 @dataclass
 class Found:
     """A refusal of the log with the changes of those before it, and the change that gets past it, where one is found,
-    with where that is made, the change at all lines, and at how many. Lines are those of the log that was given, but
-    for those of the study."""
+    with where that is made, the change at all lines, and at how many; and whether the refusal is real. Lines are
+    those of the log that was given, but for those of the study and of a run."""
 
     answer: Answer
     repair: Repair | None
@@ -40,6 +41,7 @@ class Found:
     times: int = 1
     study: Study | None = None
     numbers: Numbers = ()
+    danger: Danger | None = None
 
     def is_like(self, other: Found) -> bool:
         """Whether both are one wrong line of the source, met at the same make."""
@@ -149,7 +151,8 @@ class Searcher:
         """Gets past a refusal by the first change of `why` that can be told by lines of the log that was given, made
         at all lines that are like its own where the log gets as far so."""
         study, numbers = studied(self.program, self.changed, answer.refusal), self.numbers
-        found = Found(told_in_given(answer, numbers), None, study=study, numbers=numbers)
+        danger = danger_of(self.program, self.changed, answer.refusal, study.shrinker)
+        found = Found(told_in_given(answer, numbers), None, study=study, numbers=numbers, danger=danger)
         for repair in study.repairs:
             own = self.by_given(repair.change)
             if own is None:

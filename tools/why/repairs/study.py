@@ -190,6 +190,7 @@ class Study:
     held: list[Held]
     stricter: list[str]
     repairer: Repairer
+    shrinker: Shrinker | None = None
 
     @property
     def header(self) -> str:
@@ -265,4 +266,4 @@ def studied(program: Program, log: Log, refusal: Verdict) -> Study:
     repairs = [replace(repair, note=use_after_free(shrinker, repair.change)) for repair in repairs]
     small = with_repairs(shrinker, repairer, repairs, kept, tried)
     stricter = Strictness(program, log, refusal, scene, kept).named()
-    return Study(program, log, refusal, scene, log.lines(small), repairs, shrinker.index.loading(), kept, stricter, repairer)
+    return Study(program, log, refusal, scene, log.lines(small), repairs, shrinker.index.loading(), kept, stricter, repairer, shrinker)

@@ -8,7 +8,8 @@ from dataclasses import dataclass, field
 from functools import cached_property
 
 from why.asking import runs
-from why.asking.least import reduced
+from why.asking.danger import Danger, asked_lines, danger_of
+from why.asking.least import BREAK_BEFORE_MAKE, reduced
 from why.asking.program import Answer
 from why.log.lines import Line, Lines, written
 from why.log.stream import Source
@@ -17,6 +18,7 @@ from why.repairs.premises import PREMISES, Premise, under
 from why.repairs.strictness import LINK
 from why.repairs.study import Repair, Study, positions
 from why.telling import decoded, lanes
+from why.telling.danger import heading, of_json, texts_of
 from why.telling.edits import Teller
 from why.telling.faults import fault_of, plain
 from why.telling.formats import Finding, finding_of
@@ -33,6 +35,7 @@ class Views:
     told: runs.Told | None
     no_run: str
     chart: lanes.Chart
+    danger: Danger | None
 
 
 def with_run(study: Study, asked: list[int], steps: list[str]) -> Lines:
@@ -45,13 +48,11 @@ def with_run(study: Study, asked: list[int], steps: list[str]) -> Lines:
 
 
 def told_run(study: Study) -> tuple[runs.Told | None, str]:
-    """The run that the program has, over the lines that it needs; or None, and what is said of that. It is asked of all lines where
-    the program takes so many; else of the small log and the lines that load its roots, without which no TLB walks."""
+    """The run that the program has, over the lines that it needs; or None, and what is said of that."""
     if not study.program.has(runs.COMMAND):
         return None, f"this program has no command `{runs.COMMAND}`"
-    is_short = study.refusal.line - 1 <= runs.MOST_EVENTS
-    asked = list(range(2, study.refusal.line + 1)) if is_short else sorted({*(line.at for line in study.small), *study.loading})
     try:
+        asked = list(asked_lines(study.shrinker) or sorted({*(line.at for line in study.small), *study.loading}))
         steps = runs.steps_of(study.program, study.log.cut(asked))
         lines = with_run(study, asked, steps) if steps else ()
         found = runs.run_of(study.program, written(study.header, lines)) if steps else None
@@ -64,14 +65,20 @@ def views_of(study: Study, whole: bool) -> Views:
     """The lanes are those of the small log and of what the run takes besides; or where that is asked for those of all lines up to
     the refused one, where they aren't too many. They follow the old entry of the first place that the refusal is about."""
     told, no_run = told_run(study)
+    danger = danger_of(study.program, study.log, study.refusal, study.shrinker)
+    if told is None and danger and danger.told and study.refusal.rule == BREAK_BEFORE_MAKE:
+        told = danger.least([line.at for line in study.small])
     lines = study.small if whole or told is None else told.lines
     if whole and study.refusal.line <= TOO_MANY:
         lines = study.log.lines(range(2, study.refusal.line + 1))
     chart = lanes.chart_of(study.program, study.header, lines, study.refusal, next(iter(study.scene.places), None))
-    chart = decoded.marked(chart, study.log)
+    chart, walked = decoded.marked(chart, study.log), set()
     if told and lines is told.lines:
         chart.entries = told.lives()
-    return Views(told, no_run, chart if whole else chart.folded(positions(study.repairs)))
+        first = told.entries[0]
+        chart.rows[first.row - 1].note = f"then PE {first.pe} walks"
+        walked = {chart.rows[first.row - 1].line.at}
+    return Views(told, no_run, chart if whole else chart.folded(positions(study.repairs) | walked), danger)
 
 
 # ---- as text
@@ -111,6 +118,12 @@ class Parts:
             else f"What is still held before line {refusal.line}, by bbm"
         told = [wrapped(one.told, self.style) for one in self.study.held]
         return [self.head(title), *told] if told else []
+
+    def danger(self) -> list[str]:
+        """Whether the refusal is real."""
+        danger, refusal = self.views.danger, self.study.refusal
+        told = [wrapped(text, self.style) for text in texts_of(danger, refusal)] if danger else []
+        return [self.head(heading(danger, refusal)), *told] if danger else []
 
     def repairs(self) -> list[str]:
         if not self.study.repairs:
@@ -160,7 +173,7 @@ class Parts:
 
 def text_of(answer: Answer, parts: Parts) -> str:
     shown = [[answer.first], parts.small(), parts.held(), decoded.part(parts), parts.repairs(), parts.premise(),
-             parts.stricter(), parts.run(), parts.lanes(), parts.rule()]
+             parts.stricter(), parts.danger(), parts.run(), parts.lanes(), parts.rule()]
     return "\n\n".join("\n".join(part) for part in shown if part) + "\n"
 
 
@@ -204,6 +217,6 @@ def as_json(parts: Parts, finding: Finding) -> str:
             "held": [{"told": one.told, **named(one.line)} for one in study.held],
             "repairs": [repair_of(repair, parts.teller) for repair in study.repairs],
             **{premise.word: repair and repair_of(repair, parts.teller) for premise, repair in parts.by_premise.items()},
-            **({"stricter": study.stricter} if study.stricter else {}),
+            **({"stricter": study.stricter} if study.stricter else {}), **of_json(parts.views.danger),
             "run": {"lines": [line.at for line in run.lines], "told": run.told()} if run else None}
     return json.dumps({**finding.fields, **told}) + "\n"

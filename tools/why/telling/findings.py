@@ -15,6 +15,7 @@ from why.repairs.findings import Findings, Found, Stop
 from why.repairs.sites import Cause
 from why.telling import formats, sarif
 from why.telling.answer import edit_of
+from why.telling.danger import of_json, of_sarif, short
 from why.telling.decoded import texts_of
 from why.telling.edits import Teller
 from why.telling.formats import Finding
@@ -124,8 +125,9 @@ class Report:
         where = {"cause": {"line": one.cause.at, "word": one.cause.word, **cause.source}} if cause else {}
         repair = self.repair(count, one, texts) if one.repair else None
         known_by = Met(str(refusal.rule), refusal.label, refusal.at, refusal.line, one.cause.label if cause else "")
-        return Item(formats.of_verdict(refusal, self.name), known_by, texts, changes(count), cause, one.times,
-                    {"finding": count + 1, "times": one.times, **where, "repair": repair},
+        shown = [*filter(None, [short(one.danger)]), *texts]
+        return Item(formats.of_verdict(refusal, self.name), known_by, shown, changes(count), cause, one.times,
+                    {"finding": count + 1, "times": one.times, **where, "repair": repair, **of_json(one.danger)},
                     change=one.repair and one.repair.change, found=one)
 
     def repair(self, count: int, one: Found, texts: list[str]) -> dict:
@@ -212,7 +214,9 @@ class Report:
 
     def sarif(self) -> str:
         fix = lambda item: item.change and sarif.fix_of(item, self.teller.log)
-        results = [sarif.result_of(item.finding, item.note, item.known, item.cause, fix(item)) for item in self.items]
+        more = lambda item: of_sarif(item.found.danger) if item.found else {}
+        results = [{**sarif.result_of(item.finding, item.note, item.known, item.cause, fix(item)), **more(item)}
+                   for item in self.items]
         ends = [(finding, note) for finding, note in self.ends if finding.verdict.line]
         results += [sarif.result_of(finding, note) for finding, note in ends]
         return sarif.text_of(results, [sarif.notification_of(finding, note) for finding, note in ends])

@@ -9,10 +9,10 @@ from dataclasses import dataclass, field, replace
 from enum import Enum
 from itertools import groupby
 
-from why.asking.places import Asker, Place, tables_of
+from why.asking.places import phases_after
 from why.asking.program import Program, Verdict
 from why.log import words
-from why.log.lines import Before, Event, Header, Line, Lines, Log, header_of, written
+from why.log.lines import Event, Header, Line, Lines, Log, header_of, written
 from why.telling.style import BOLD, DIM, RED, Style
 
 ALL_SHOWN = 16
@@ -31,7 +31,7 @@ class Effect(Enum):
 
 @dataclass
 class Row:
-    """A line, or the lines of set-up for which the row stands, of which `line` is the first."""
+    """A line, or the lines of set-up for which the row stands, of which `line` is the first; and what is noted of it."""
 
     line: Line
     phases: tuple[str, ...] = ()
@@ -39,6 +39,7 @@ class Row:
     refused: bool = False
     alike: bool = False
     set_up: Lines = ()
+    note: str = ""
 
     @property
     def event(self) -> Event:
@@ -54,7 +55,7 @@ class Row:
         if self.set_up:
             kinds = ", ".join(dict.fromkeys(line.event.word for line in self.set_up))
             return f"{len(self.set_up)} lines of set-up up to line {self.set_up[-1].at}: {kinds}"
-        return str(self.event) if labelled else self.event.plain
+        return (str(self.event) if labelled else self.event.plain) + (f"  <- {self.note}" if self.note else "")
 
 
 @dataclass
@@ -108,12 +109,6 @@ class Chart:
 
 
 # ---- what the program says
-
-def phases_after(program: Program, log: Log, last: int, place: int) -> tuple[str, ...]:
-    """How far a place has come at each PE behind a line; none where it holds nothing."""
-    before = Before(log, last)
-    return next((one.phases for one in Asker(program, before, tables_of(before)).found([Place(place)])), ())
-
 
 def effects_of(event: Event, header: Header, before: tuple[str, ...], after: tuple[str, ...]) -> dict[int, Effect]:
     """What an event did at each PE: by the phases before and behind it, and a TLBI by its form."""
