@@ -4,6 +4,7 @@
 - Each refused log of examples/ that is about rule 4, 12 or 18: where it is said to be real the run is followed to its
   end, under rules 4 and 12 to a conflict at its last step; where it is said to be strict `counterrun` has no run.
 - Of the logs of examples/refusals the word and the causes, by what each log is meant to show.
+- Of a log of more than 2,000 events what is asked of a part of its lines.
 - So it is of the packed logs in the folder that the environment variable BBM_LOGS names, where it is set.
 """
 import lzma
@@ -94,8 +95,20 @@ def logs():
         yield str(packed), lzma.decompress(packed.read_bytes())
 
 
+def long_logs():
+    """Logs of more events than `counterrun` takes: the lines about the place are asked, unless they are too many."""
+    log = EXAMPLES / "why/run_behind_a_switch.log"
+    header, *lines = log.read_text().split("\n")[:-2]
+    for event, wanted in (("dmb 0 ish", "real"), ("dsb 0 ish", "unknown")):
+        long = log_of(header, "".join(f"{line}\n" for line in [*lines[:10], *[event] * 2100, *lines[10:]]))
+        found = danger_of(PROGRAM, Log(long), PROGRAM.check(long).refusal)
+        if short(found) != wanted or found.told and not 0 < found.asked < found.events:
+            yield f"2,100 lines `{event}` in {log.name}: {short(found)}, asked of {found.asked} of {found.events}"
+
+
 def danger():
     """The faults in what is said of each log."""
+    yield from long_logs()
     for name, log in logs():
         faults, said = faults_of(log)
         wanted = SAID.get(name, "real" if name.startswith("refusals/run_") else said)
