@@ -205,8 +205,8 @@ def html(parts: Parts, answer: Answer) -> str:
     """The whole answer: the text's parts, with the picture in the place of the lanes."""
     parts = replace(parts, style=Style(100, False, True))
     picture = f'<h2>Lanes</h2>\n<div class="picture">\n{svg(parts, answer)}</div>\n'
-    shown = (parts.repairs(), parts.premise(), parts.stricter(), parts.held(), decoded.part(parts), parts.small(),
-             parts.run())
+    shown = (parts.repairs(), parts.premise(), parts.stricter(), parts.danger(), parts.held(), decoded.part(parts),
+             parts.small(), parts.run())
     first, *more = [section(part) for part in shown if part]
     rule = parts.rule()
     return "<!DOCTYPE html>\n<html lang=\"en\">\n<head>\n<meta charset=\"utf-8\">\n" \
