@@ -87,7 +87,7 @@ SCHEMA = {
     "descriptor": ({"id": str}, ()),
     "result": ({"ruleId": str, "level": LEVELS, "message": "text", "locations": ["location"],
                 "relatedLocations": ["location"], "fixes": ["fix"], "partialFingerprints": dict,
-                "suppressions": ["suppression"]}, ("message",)),
+                "rank": float, "properties": dict, "suppressions": ["suppression"]}, ("message",)),
     "location": ({"physicalLocation": "place", "message": "text"}, ()),
     "place": ({"artifactLocation": "artifact", "region": "region"}, ("artifactLocation",)),
     "artifact": ({"uri": str}, ()),
