@@ -33,13 +33,15 @@ class Asked:
     most: int = 20
     known: str = ""
     write_known: str = ""
+    seconds: int = 30
+    jobs: int = 0
 
 
 def asked_of(options: list[str]) -> Asked:
     """The options that the script gives: it has judged them."""
     parts = [option.removeprefix("--").partition("=") for option in options]
     values = {name.replace("-", "_"): (value if sign else True) for name, sign, value in parts}
-    numbers = {name: int(values[name]) for name in ("nth", "most") if name in values}
+    numbers = {name: int(values[name]) for name in ("nth", "most", "seconds", "jobs") if name in values}
     return Asked(**{**values, **numbers})
 
 
@@ -63,8 +65,9 @@ def say_check(program: Program, source: Source, asked: Asked) -> int:
 
 
 def say_why(program: Program, source: Source, asked: Asked) -> int:
+    from why.asking.effort import Effort, processors
     from why.log.lines import Log
-    from why.repairs.study import studied
+    from why.repairs.study import Studying
     from why.telling import answer as telling
     from why.telling import files, picture
     from why.telling.style import style_of
@@ -73,9 +76,11 @@ def say_why(program: Program, source: Source, asked: Asked) -> int:
     if not answer.refusal:
         emit(shown(answer, asked.log, asked.format) if asked.format else telling.other_answer(answer, source))
         return answer.status
-    found = studied(program, Log(source.read()), answer.refusal)
-    parts = telling.Parts(found, telling.views_of(found, asked.whole), style_of(sys.stdout))
-    emit(telling.as_json(parts, finding_of(answer, asked.log)) if asked.format else telling.text_of(answer, parts))
+    say = telling.Saying(answer, style_of(sys.stdout), (lambda text: None) if asked.format else emit)
+    studying = Studying(program, Log(source.read()), answer.refusal, Effort(asked.seconds, asked.jobs or processors()))
+    parts = say.all_of(studying, asked.whole)
+    if asked.format:
+        emit(telling.as_json(parts, finding_of(answer, asked.log)))
     for path, make in ((asked.svg, picture.svg), (asked.html, picture.html)):
         if path:
             files.write(path, make(parts, answer))

@@ -286,7 +286,7 @@ def asked_lines(shrinker: Shrinker) -> Numbers | None:
     last = shrinker.refusal.line
     if last - 1 <= MOST:
         return range(2, last + 1)
-    for numbers in shrinker.fronts():
+    for numbers in shrinker.fronts(last):
         wide = sorted({*numbers, *shrinker.index.loading()})
         if len(wide) > MOST:
             return None

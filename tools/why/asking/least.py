@@ -1,9 +1,9 @@
 # SPDX-License-Identifier: Apache-2.0
-"""From a refused log to the least log that the same rule refuses at the same place; and with `--rename` its PEs and pages under
-small numbers.
+"""From a refused log to the least log that the same rule refuses at the same place; and with `--rename` its PEs and
+pages under small numbers.
 
-Each try is judged by the program. What is tried first are the lines that name the pages on the way to the place, its root,
-lock and tags (`names`); where these alone aren't refused alike, more lines are.
+Each try is judged by the program. What is tried first are the lines that name the pages on the way to the place, its
+root, lock and tags (`names`); where these alone aren't refused alike, more lines are.
 """
 from __future__ import annotations
 
@@ -18,6 +18,8 @@ from why.asking.program import Answer, Program, Verdict
 BREAK_BEFORE_MAKE = 4
 # A log of so many events is tried as it is.
 FEW = 48
+# So often lines are taken to those that are tried, or left out of them.
+MENDED = 128
 
 
 def without_some(numbers: Numbers, size: int, holds: Callable[[Numbers], bool]) -> Numbers:
@@ -33,7 +35,8 @@ def without_some(numbers: Numbers, size: int, holds: Callable[[Numbers], bool]) 
 
 
 def by_size(numbers: Numbers, holds: Callable[[Numbers], bool]) -> Numbers:
-    """Lines of which none can be left out: by halves, quarters and so on, and then one by one until nothing more goes."""
+    """Lines of which none can be left out: by halves, quarters and so on, and then one by one until nothing more
+    goes."""
     size = max(1, len(numbers) // 2)
     while True:
         fewer = without_some(numbers, size, holds)
@@ -43,7 +46,8 @@ def by_size(numbers: Numbers, holds: Callable[[Numbers], bool]) -> Numbers:
 
 
 def groups(log: Log, numbers: Numbers) -> list[frozenset[int]]:
-    """Lines that may have to go together: two or three in a row of one lock, or of one page that is made zero and declared."""
+    """Lines that may have to go together: two or three in a row of one lock, or of one page that is made zero and
+    declared."""
     named: dict[tuple, list[int]] = {}
     for at in numbers[:-1]:
         event = log.line(at).event
@@ -71,8 +75,32 @@ def reduced(log: Log, numbers: Numbers, holds: Callable[[Numbers], bool]) -> Num
             return numbers
 
 
+class Over(Exception):
+    """There is no time left."""
+
+
+def reduced_in_time(log: Log, numbers: Numbers, holds: Callable[[Numbers], bool],
+                    is_over: Callable[[], bool]) -> Numbers:
+    """The same, or what is left of the lines when the time is over."""
+    left = numbers
+
+    def asked(fewer: Numbers) -> bool:
+        nonlocal left
+        if is_over():
+            raise Over
+        if holds(fewer):
+            left = fewer
+        return left is fewer
+
+    try:
+        return reduced(log, numbers, asked)
+    except Over:
+        return left
+
+
 class Shrinker:
-    """The least logs of one refused log: the same rule refuses the last line at the same place, which has come as far at each PE."""
+    """The least logs of one refused log: the same rule refuses the last line at the same place, which has come as
+    far at each PE."""
 
     def __init__(self, program: Program, log: Log, refusal: Verdict):
         self.program, self.log, self.refusal = program, log, refusal
@@ -91,33 +119,29 @@ class Shrinker:
         answer = self.program.explain(log) if self.phases else self.program.check(log)
         return self.is_alike(answer, numbers) and answer.phases == self.phases
 
-    def fronts(self) -> Iterator[Numbers]:
-        """Lines to try, from few to all up to the refused one."""
-        yield from self.index.slices()
+    def fronts(self, since: int) -> Iterator[Numbers]:
+        """Lines to try, from few to all up to the refused one; barriers and TLBIs count from a line on at the
+        latest."""
+        yield from self.index.slices(since)
         yield range(2, self.refusal.line + 1)
 
-    @cached_property
-    def least(self) -> Numbers:
-        """Lines of which none can be left out."""
-        return reduced(self.log, next(filter(self.holds, self.fronts())), self.holds)
-
-    def with_attempts(self, held: list[int]) -> Numbers:
-        """The least log and what the log did about it beside, and about what is held by these lines: where a repair is looked for."""
-        whole = range(2, self.refusal.line + 1)
-        if len(whole) <= FEW:
-            return whole
-        return self.joined(self.index.attempts(held))
-
-    def joined(self, more: Numbers) -> Numbers:
-        """The least log with those of these lines that leave the refusal as it is."""
-        kept = sorted({*self.least, *more})
-        if self.holds(kept):
-            return kept
-        kept = self.least
-        for at in more:
-            wider = sorted({*kept, at})
-            kept = wider if self.holds(wider) else kept
-        return kept
+    def mended(self, numbers: Numbers) -> Numbers | None:
+        """These lines until the last one is refused alike: what the program refuses before it is left out, but for
+        what it needs where more lines can be taken in for that; None where that comes to no end."""
+        needed, left_out = self.index.core, set()
+        for _ in range(MENDED):
+            if self.holds(numbers):
+                return numbers
+            refusal = self.program.check(self.log.cut(numbers)).refusal
+            if refusal is None or refusal.line > len(numbers):
+                return None
+            at = numbers[refusal.line - 2]
+            wider = sorted({*numbers, *self.index.about(at, refusal)} - left_out) if at in needed else numbers
+            if len(wider) == len(numbers):
+                left_out.add(at)
+                wider = [other for other in numbers if other != at]
+            numbers = wider
+        return None
 
     def barest(self, numbers: Numbers) -> Numbers:
         """Of these lines the least that the same rule refuses at the same place, however far the place has come."""

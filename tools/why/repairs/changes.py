@@ -2,14 +2,19 @@
 """Changes of a log: what a repair puts in, changes or moves, by the line numbers of the log that was given."""
 from __future__ import annotations
 
+from array import array
 from bisect import bisect_left, bisect_right
-from collections.abc import Iterable
+from collections.abc import Iterable, Sequence
 from dataclasses import dataclass
 from enum import Enum
+from itertools import accumulate
 from typing import Union
 
-from why.log.lines import Log, joined
+from why.log.lines import Log, Numbers, joined
 from why.log.words import is_of_tag
+
+
+FLUSHING = ("dsb", "tlbi")
 
 
 class Kind(Enum):
@@ -36,7 +41,8 @@ class Kind(Enum):
 
 @dataclass(frozen=True)
 class Put:
-    """An event put in behind a line, and why. `text` has no label; `step` tells the second TLBI of two from one that takes all."""
+    """An event put in behind a line, and why. `text` has no label; `step` tells the second TLBI of two from one that
+    takes all."""
 
     after: int
     text: str
@@ -47,7 +53,8 @@ class Put:
 
 @dataclass(frozen=True)
 class Swap:
-    """A line with other words, and what is wrong with it where that isn't seen in these; the first line is the header."""
+    """A line with other words, and what is wrong with it where that isn't seen in these; the first line is the
+    header."""
 
     at: int
     text: str
@@ -101,8 +108,10 @@ class Change:
 
     @property
     def idea(self) -> frozenset[str]:
-        """The TLBIs for all under a tag that it puts in, at whichever line."""
-        words_of = (edit.text.split(" ") for edit in self.edits if isinstance(edit, (Put, Swap)) and edit.text.startswith("tlbi "))
+        """The TLBIs for all under a tag that it puts in, at whichever line; one that only reaches more PEs counts
+        for none."""
+        words_of = (edit.text.split(" ") for edit in self.edits if isinstance(edit, (Put, Swap))
+                    and edit.text.startswith("tlbi ") and edit.kind is not Kind.BROADCAST)
         return frozenset(fields[2] for fields in words_of if is_of_tag(fields[2]))
 
     @property
@@ -114,6 +123,11 @@ class Change:
     def synchronises(self) -> bool:
         """Whether it is an ISB that is put in, and nothing else."""
         return bool(self.edits) and all(isinstance(edit, Put) and edit.text.startswith("isb ") for edit in self.edits)
+
+    @property
+    def flushes(self) -> bool:
+        """Whether it puts in or alters a barrier or TLBI."""
+        return any(isinstance(edit, (Put, Swap)) and edit.text.split(" ")[0] in FLUSHING for edit in self.edits)
 
     @property
     def moves(self) -> bool:
@@ -143,11 +157,15 @@ def puts(after: int, *texts: str) -> Change:
     return Change(tuple(Put(after, text) for text in texts))
 
 
-def edited(log: Log, numbers: Iterable[int], change: Change) -> tuple[bytes, list[int]]:
-    """The log of the lines of these numbers as the change leaves it, and the number in the log that was given of each of its
-    lines; what is put in has that of the line before it."""
-    keys = [1, *numbers]
-    parts, given = [log.parts[at - 1] for at in keys], [*keys]
+def moved_to(edit: Edit) -> int:
+    """The line behind which an edit leaves something."""
+    return edit.at if isinstance(edit, (Swap, Drop)) else edit.after
+
+
+def made_in(keys: list[int], parts: list[bytes], change: Change) -> list[int]:
+    """Makes a change in lines of these numbers, and gives for each line that is left its number in the log that was
+    given; what is put in has that of the line before it."""
+    given = [*keys]
     for edit in sorted(change.edits, key=lambda edit: not isinstance(edit, Swap)):
         at, text = position_of(edit), b""
         if not isinstance(edit, Put):
@@ -157,9 +175,61 @@ def edited(log: Log, numbers: Iterable[int], change: Change) -> tuple[bytes, lis
             text = parts[old]
             del keys[old], parts[old], given[old]
         if not isinstance(edit, Drop):
-            after = at if isinstance(edit, Swap) else edit.after
+            after = moved_to(edit)
             new = bisect_right(keys, after)
             keys.insert(new, after)
             parts.insert(new, text if isinstance(edit, Move) else edit.text.encode("latin-1"))
             given.insert(new, at)
+    return given
+
+
+@dataclass(frozen=True)
+class Edited:
+    """A log with a change, as parts that follow each other, and the numbers of its lines in the log that was given."""
+
+    parts: tuple[bytes | memoryview, ...]
+    keys: Sequence[int]
+    given: list[int]
+    first: int
+    last: int
+
+    def number(self, line: int) -> int:
+        """The number in the log that was given of a line; of what comes behind the last line that of this."""
+        at = line - 1
+        if self.first <= at < self.first + len(self.given):
+            return self.given[at - self.first]
+        old = at if at < self.first else at - len(self.given) + self.last - self.first
+        return self.keys[min(old, len(self.keys) - 1)]
+
+
+class Piece:
+    """Lines of a log, their header first, as bytes in which changes are made: what a change doesn't touch stays one
+    part."""
+
+    def __init__(self, log: Log, numbers: Numbers):
+        self.log = log
+        self.keys = range(1, numbers.stop) if isinstance(numbers, range) and numbers.start == 2 else [1, *numbers]
+        parts = [log.parts[at - 1] for at in self.keys]
+        self.offsets = array("Q", accumulate((len(part) + 1 for part in parts), initial=0))
+        self.data = memoryview(b"\n".join([*parts, b""]))
+
+    def edited(self, change: Change) -> Edited:
+        near = [at for edit in change.edits for at in (position_of(edit), moved_to(edit))] or [self.keys[-1]]
+        first, last = bisect_left(self.keys, min(near)), bisect_right(self.keys, max(near))
+        keys = [*self.keys[first:last]]
+        parts = [self.log.parts[at - 1] for at in keys]
+        given = made_in(keys, parts, change)
+        middle = b"".join(part + b"\n" for part in parts)
+        end = b"end %d\n" % (len(self.keys) - 1 + len(given) - (last - first))
+        offsets = self.offsets
+        whole = self.data[:offsets[first]], middle, self.data[offsets[last]:], end
+        return Edited(whole, self.keys, given, first, last)
+
+
+def edited(log: Log, numbers: Iterable[int], change: Change) -> tuple[bytes, list[int]]:
+    """The log of the lines of these numbers as the change leaves it, and the number in the log that was given of
+    each of its lines; what is put in has that of the line before it."""
+    keys = [1, *numbers]
+    parts = [log.parts[at - 1] for at in keys]
+    given = made_in(keys, parts, change)
     return joined(parts), given

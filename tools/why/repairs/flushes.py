@@ -1,5 +1,6 @@
 # SPDX-License-Identifier: Apache-2.0
-"""Barriers and TLBIs that may be missing or wrong between a break and what comes after it, and register writes before a flush.
+"""Barriers and TLBIs that may be missing or wrong between a break and what comes after it, and register writes before a
+flush.
 
 Each try is what stands before the TLBI, the TLBI, and what stands behind it; each of the three may stay as it is.
 """
@@ -18,17 +19,18 @@ SWITCHING = 5
 
 @dataclass(frozen=True)
 class Family:
-    """Changes of one size, the least first; the first that passes stands for all, or with `furthest` the one with which the
-    whole log gets furthest. `probe` is tried before them: where that doesn't pass, less doesn't."""
+    """Changes of one size, the least first; the first that passes stands for all, or with `furthest` the one with
+    which the whole log gets furthest. `probes` are tried before them, the one that does most first: where one
+    doesn't pass, less doesn't."""
 
     choices: tuple[Change, ...]
-    probe: Change | None = None
+    probes: tuple[Change, ...] = ()
     furthest: bool = False
 
     def __add__(self, more: Change) -> Family:
         """The family with more edits behind each change."""
-        probe = None if self.probe is None else self.probe + more
-        return replace(self, choices=tuple(change + more for change in self.choices), probe=probe)
+        extended = lambda changes: tuple(change + more for change in changes)
+        return replace(self, choices=extended(self.choices), probes=extended(self.probes))
 
 
 @dataclass(frozen=True)
@@ -56,7 +58,8 @@ def with_pe(line: Line, pe: int) -> Change:
 # ---- the operands
 
 def operands(scene: Scene, event: Event) -> Iterator[tuple[int, Kind]]:
-    """Other operands of a TLBI: without its hint, with the right one, of the place's address, of a tag, of a longer range."""
+    """Other operands of a TLBI: without its hint, with the right one, of the place's address, of a tag, of a longer
+    range."""
     operand = words.Operand(event.operation, event.operand)
     if operand.hint is not None:
         yield from ((operand.hinted(spot.level), Kind.HINT) for spot in scene.spots if spot.level)
@@ -134,14 +137,16 @@ def tlbis_for(scene: Scene, kind: str) -> list[str]:
 
 
 def positions(scene: Scene) -> list[tuple[int, int]]:
-    """Behind which lines a TLBI may be put in, and by which PE: before and behind each near DSB by that PE, behind the last
-    ISBs, and before the refused line; there first where a tag was left, since its flush is put off until the tag is used again."""
+    """Behind which lines a TLBI may be put in, and by which PE: before and behind each near DSB by that PE, behind
+    the break and the last ISBs, and before the refused line; there first where a tag was left, since its flush is
+    put off until the tag is used again."""
     near = scene.near("dsb")
     found = [(at, line.event.pe) for line in near for at in (line.at, line.at - 1)]
     synced = [line.at for line in scene.in_window("isb")[-2:]] if is_about_tags(scene) else []
     ends = [*(line.at for line in near), *synced, scene.refused.at - 1]
     first = [(scene.refused.at - 1, scene.event.pe)] if scene.is_about_left else []
-    return list(dict.fromkeys([*first, *found, *((at, pe) for pe in scene.pes[:2] for at in ends)]))
+    broken = [(scene.last_write.at, scene.last_write.event.pe)] if scene.last_write else []
+    return list(dict.fromkeys([*first, *found, *broken, *((at, pe) for pe in scene.pes[:2] for at in ends)]))
 
 
 def flushes(scene: Scene) -> Iterator[Flush]:
@@ -162,7 +167,8 @@ def flushes(scene: Scene) -> Iterator[Flush]:
 
 
 def broadcast(scene: Scene) -> Iterator[Family]:
-    """A local TLBI with the suffix `is`, alone or with the DSB behind it: tried before any change of a line that may be right."""
+    """A local TLBI with the suffix `is`, alone or with the DSB behind it: tried before any change of a line that may
+    be right."""
     for line in scene.near("tlbi"):
         if words.is_broadcast(line.event.operation):
             continue
@@ -178,7 +184,8 @@ def loads_of_s2(scene: Scene) -> list[Event]:
 
 
 def other_vmid(scene: Scene, line: Line) -> str:
-    """That a TLBI acts under another VMID than the places have, by the last register writes; nothing where it doesn't."""
+    """That a TLBI acts under another VMID than the places have, by the last register writes; nothing where it
+    doesn't."""
     written = [before.event for before in scene.of_word("msr") if before.at < line.at and before.event.pe == line.event.pe]
     values = [event.value >> words.ASID_SHIFT for event in written if event.rest[0] == "vttbr_el2"]
     place = [event.value >> words.ASID_SHIFT for event in loads_of_s2(scene)]
@@ -222,7 +229,8 @@ def publications(scene: Scene, flush: Flush) -> Iterator[Change]:
 
 
 def elsewhere(scene: Scene) -> list[tuple[str, str]]:
-    """Register writes that lead away from a root: to a declared null page, those of the log that name another root, and 0."""
+    """Register writes that lead away from a root: to a declared null page, those of the log that name another root,
+    and 0."""
     written = [tuple(line.event.rest) for line in scene.of_word("msr") if line is not scene.refused]
     given_up = scene.refusal.at
     others = [(register, value) for register, value in written if int(value, 16) & ADDRESS_BITS not in (given_up, 0)]
@@ -241,6 +249,8 @@ def away(pes: list[int], register: str, value: str) -> list[str]:
 def switches(scene: Scene, flush: Flush) -> Iterator[Change]:
     """What may stand before the TLBI so that no PE uses the tag any more: an ISB, or another root and an ISB."""
     yield NOTHING
+    if scene.is_about_left:
+        return
     behind = flush.at if flush.is_new else flush.at - 1
     pes = list(dict.fromkeys(line.event.pe for line in scene.of_word("msr")))[-SWITCHING:]
     for pe in pes:
@@ -259,18 +269,30 @@ def completions(scene: Scene, flush: Flush) -> Iterator[Change]:
     yield puts(flush.at, f"dsb {flush.pe} {words.COMPLETING}")
 
 
+def fullest(scene: Scene, flush: Flush) -> tuple[Change, ...]:
+    """A flush with all that may stand around it: where that doesn't pass, less of it doesn't; none where it is about
+    tags."""
+    broken = scene.last_write
+    if is_about_tags(scene) or broken is None or broken.at > flush.at:
+        return ()
+    clear = [f"w {broken.event.pe} {broken.event.rest[0]} 0x0"] if broken.event.value & 1 else []
+    begin = puts(broken.at, *clear, f"dsb {broken.event.pe} {words.PUBLISHING}")
+    return (begin + flush.widest + puts(flush.at, f"dsb {flush.pe} {words.COMPLETING}"),)
+
+
 def sequences(scene: Scene, size: int) -> Iterator[Family]:
     """Each way to a complete flush that takes so many edits."""
     before = switches if is_about_tags(scene) else publications
     for flush in flushes(scene):
         if not flush.choices:
             continue
-        width = flush.choices[0].size
+        width, full = flush.choices[0].size, fullest(scene, flush)
         ends = [end for end in completions(scene, flush) if end.size + width <= size]
         for begin in before(scene, flush):
             for end in ends:
                 if begin.size + width + end.size == size:
-                    yield Family(tuple(begin + choice + end for choice in flush.choices), begin + flush.widest + end)
+                    choices = tuple(begin + choice + end for choice in flush.choices)
+                    yield Family(choices, (*full, begin + flush.widest + end))
 
 
 def whole_sequences(scene: Scene) -> Iterator[Family]:
@@ -291,7 +313,8 @@ def whole_sequences(scene: Scene) -> Iterator[Family]:
 
 
 def tails(scene: Scene) -> list[list[str]]:
-    """What stands behind a whole sequence: where a page has to be made zero then, that which is reported, or all those of a root."""
+    """What stands behind a whole sequence: where a page has to be made zero then, that which is reported, or all
+    those of a root."""
     event, of_pages = scene.event, lambda pages: [f"init {scene.event.pe} {hex(page)}" for page in pages]
     if scene.refusal.name == "limbo-make":
         return [of_pages([event.page])]
@@ -302,8 +325,8 @@ def tails(scene: Scene) -> list[list[str]]:
 
 
 def loading(scene: Scene) -> list[int]:
-    """The PEs that have the reported root in a register, or where that is the new one another root under its tag; else that
-    of the refused line."""
+    """The PEs that have the reported root in a register, or where that is the new one another root under its tag;
+    else that of the refused line."""
     event, at = scene.event, scene.refusal.at
     last = {(line.event.pe, line.event.rest[0]): line.event for line in scene.of_word("msr") if line is not scene.refused}
     tag_of = lambda event: (event.rest[0], event.value >> words.ASID_SHIFT)

@@ -1,5 +1,6 @@
 # SPDX-License-Identifier: Apache-2.0
-"""What a refusal is about, as the log's own words tell it: the places, their input addresses, roots, locks, tags and PEs.
+"""What a refusal is about, as the log's own words tell it: the places, their input addresses, roots, locks, tags and
+PEs.
 
 It goes by the writes that stand in the small log. It chooses what is tried; the program judges each try.
 """
@@ -32,8 +33,9 @@ class Spot:
 
 @dataclass
 class Scene:
-    """The lines at hand, the refused one last, and those that come behind it in the log that was given; the places that hold a
-    value there, and that of them to which the scene is narrowed."""
+    """The lines at hand, the refused one last, and those that come behind it in the log that was given; the places
+    that hold a value there, and that of them to which the scene is narrowed; and who holds each lock, where that is
+    known of the whole log."""
 
     header: Header
     lines: Lines
@@ -42,6 +44,7 @@ class Scene:
     near_tags: list[int] = field(default_factory=list)
     held: tuple[int, ...] = ()
     focus: int | None = None
+    holding: dict[str, int] | None = None
 
     @cached_property
     def links(self) -> dict[int, int]:
@@ -81,7 +84,9 @@ class Scene:
 
     @cached_property
     def holders(self) -> dict[str, int]:
-        """Which PE took each lock last and didn't give it back."""
+        """Which PE took each lock last and didn't give it back; by the lines at hand, where that isn't known of all."""
+        if self.holding is not None:
+            return self.holding
         locks = Locks()
         for line in self.lines[:-1]:
             locks.take(line.event)
@@ -95,7 +100,8 @@ class Scene:
         return list(dict.fromkeys(lock for lock in (named or [lock for _, lock in self.roots.values()]) if lock))
 
     def under_locks(self, *texts: str) -> list[str]:
-        """These events by the refused line's PE, which takes the locks that nobody holds before them, and gives them back."""
+        """These events by the refused line's PE, which takes the locks that nobody holds before them, and gives them
+        back."""
         free = [f"{self.event.pe} {lock}" for lock in self.locks if lock not in self.holders]
         return [*(f"lock {lock}" for lock in free), *texts, *(f"unlock {lock}" for lock in free[::-1])]
 
@@ -130,8 +136,8 @@ class Scene:
 
     @cached_property
     def places(self) -> list[int]:
-        """The places that the refusal is about: the refused one, those that link the pages it names, and those above; or the one
-        to which the scene is narrowed. Of a page that is mapped those of the leaves."""
+        """The places that the refusal is about: the refused one, those that link the pages it names, and those
+        above; or the one to which the scene is narrowed. Of a page that is mapped those of the leaves."""
         if self.focus is not None:
             return [self.focus]
         if self.is_about_leaves and self.held:
@@ -178,15 +184,16 @@ class Scene:
 
     @cached_property
     def tags(self) -> list[int]:
-        """The VMIDs and ASIDs of the register writes that name a root, that of the refused line first, and those of the log
-        that was given."""
+        """The VMIDs and ASIDs of the register writes that name a root, that of the refused line first, and those of
+        the log that was given."""
         lines = [self.refused, *self.of_word("msr")]
         values = [line.event.value for line in lines if line.event.word == "msr" and line.event.value & ADDRESS_BITS]
         return list(dict.fromkeys([*(value >> 48 for value in values), *self.near_tags]))
 
     @cached_property
     def last_write(self) -> Line | None:
-        """The last write before the refused line at a place that the refusal is about: the break, where there is one."""
+        """The last write before the refused line at a place that the refusal is about: the break, where there is
+        one."""
         written = [line for line in self.lines[:-1] if line.event.word == "w" and line.event.place in self.places]
         return written[-1] if written else None
 
@@ -202,8 +209,8 @@ class Scene:
         return [line for line in self.window if line.event.word in words]
 
     def near(self, *words: str) -> list[Line]:
-        """Of these lines of the window the first ones, behind the break, and the last ones, before the refused line. Where
-        nothing was written the last ones come first."""
+        """Of these lines of the window the first ones, behind the break, and the last ones, before the refused line.
+        Where nothing was written the last ones come first."""
         lines = self.in_window(*words)
         if self.last_write is None:
             return lines[:-2 * NEAR - 1:-1]
@@ -211,7 +218,8 @@ class Scene:
 
     @cached_property
     def pes(self) -> list[int]:
-        """The PEs whose events count: that of the last write of the place, of the refused line, and of what is between."""
+        """The PEs whose events count: that of the last write of the place, of the refused line, and of what is
+        between."""
         first = [self.last_write.event.pe] if self.last_write else []
         between = [line.event.pe for line in self.in_window("tlbi", "dsb")]
         return list(dict.fromkeys([*first, self.event.pe, *between[::-1]]))[:PES_TRIED]

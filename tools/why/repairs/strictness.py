@@ -1,7 +1,6 @@
 # SPDX-License-Identifier: Apache-2.0
-"""Whether a refusal is one of those by which `bbm` is stricter than the architecture (docs/BREAK_BEFORE_MAKE.md), each by what the
-program says is held.
-"""
+"""Whether a refusal is one of those by which `bbm` is stricter than the architecture (docs/BREAK_BEFORE_MAKE.md),
+each by what the program says is held."""
 from __future__ import annotations
 
 from why.asking.holding import OF_PLACES, Held, Places
@@ -40,9 +39,10 @@ class Strictness:
         inside = [there for there, _ in places.inside(place)] if place >> 12 in places.tables.pages else []
         return bool(inside) and bool(places.asker.found([Place(there) for there in inside], 1))
 
-    def of_table(self, place: int) -> list[str]:
+    def of_table(self, one: Held) -> list[str]:
         """A table that its TLBI by address left."""
-        flushes = [line for line in self.scene.in_window("tlbi") if by_address(line)]
+        place, since = one.place, one.line.at
+        flushes = [line for line in self.scene.in_window("tlbi") if by_address(line) and line.at > since]
         if not flushes or self.log.event(self.refusal.line).place == place and self.refusal.name != "break-before-make":
             return []
         if self.held_below(place, self.refusal.line - 1):
@@ -72,5 +72,5 @@ class Strictness:
         if self.refusal.name not in OF_PLACES:
             return []
         places = [one for one in self.held if one.place is not None]
-        found = [text for one in places[:1] for text in self.of_table(one.place)]
+        found = [text for one in places[:1] for text in self.of_table(one)]
         return found or [text for one in places[:1] for text in self.of_own_pe(one)]

@@ -1,184 +1,42 @@
 # SPDX-License-Identifier: Apache-2.0
-"""From a refused log to its small log and the least changes after which that gets past its last line: found by trying, and judged
-by the program."""
+"""From a refused log to what is held, its small log, and the least changes after which it gets past its line: found
+by trying, and judged by the program."""
 from __future__ import annotations
 
-from collections import Counter
-from collections.abc import Iterable
-from dataclasses import dataclass, replace
+from collections.abc import Iterator
+from dataclasses import dataclass, field, replace
 from functools import cached_property
-from itertools import islice
 
+from why.asking.effort import Effort
 from why.asking.holding import Held, held_at
-from why.asking.least import Shrinker, reduced
+from why.asking.least import FEW, Shrinker, reduced_in_time
 from why.asking.mapping import TABLE_MAPPED, mapping_at
-from why.asking.program import Answer, Program, Verdict
-from why.log.lines import Line, Lines, Log, Numbers, event_of, header_of
-from why.repairs.changes import Change, Move, Put, Swap, edited, position_of
-from why.repairs.flushes import Family, is_about_tags
+from why.asking.program import Program, Verdict
+from why.log.lines import Line, Lines, Log, Numbers, header_of
+from why.repairs.changes import Change, Put
+from why.repairs.flushes import whole_sequences
+from why.repairs.judge import ACCEPTED_ALL, Judge, Repair
 from why.repairs.scene import Scene
+from why.repairs.search import Repairer, positions, varied
 from why.repairs.sections import Home
 from why.repairs.strictness import Strictness
-from why.repairs.tries import LARGEST, families, first_families, last_resort
 
-LATER, ROUNDS = 12, 3
-WANTED, ALIKE = 3, 2
-RANKED = 8
-CHOICES = 4
-# A TLBI that the log has so often may be a repeat.
-OFTEN = 64
-# So many changes are tried with which the small log alone gets past its last line.
-MOST_FAILED = 24
-ACCEPTED_ALL = 1 << 40
+__all__ = ["ACCEPTED_ALL", "Repair", "Repairer", "Study", "Studying", "positions", "studied", "varied"]
 
-
-@dataclass(frozen=True)
-class Repair:
-    """A change with which the small log passes, and the whole log gets past the refused line: where its next refusal is, if any. And
-    what is to be said of it besides."""
-
-    change: Change
-    whole: Answer
-    next_line: int | None
-    note: str = ""
-
-    @property
-    def reach(self) -> int:
-        return ACCEPTED_ALL if self.whole.accepted else self.next_line or 0
-
-
-class Repairer:
-    """Tries changes of a scene, and of the log that it was taken from."""
-
-    def __init__(self, program: Program, log: Log, scene: Scene):
-        self.program, self.log, self.scene = program, log, scene
-        self.home = Home(log, scene)
-        self.failed: list[Change] = []
-        self.borrowing: list[Repair] = []
-
-    # ---- what passes
-
-    def answer_to(self, change: Change, numbers: Numbers) -> Answer:
-        """What the program says of these lines with the change, and of those behind the refused one that it moves, or moves that behind."""
-        last, later = self.scene.refused.at, self.scene.later
-        moves = [edit for edit in change.edits if isinstance(edit, Move)]
-        more = [line.at for line in later if any(line.at == edit.at or edit.at == last and line.at <= edit.after for edit in moves)]
-        return self.program.check(edited(self.log, [*numbers, *more], change)[0])
-
-    def passes(self, change: Change, numbers: Numbers | None = None) -> bool:
-        return self.answer_to(change, self.scene.numbers if numbers is None else numbers).accepted
-
-    def is_alike(self, answer: Answer) -> bool:
-        """Whether the same rule still refuses a line at the same place."""
-        found, old = answer.refusal, self.scene.refusal
-        return found is not None and (found.rule, found.at) == (old.rule, old.at)
-
-    def in_front(self, change: Change, last: int) -> Repair:
-        """The repair, and what the program says of the whole log up to a line with it."""
-        log, numbers = edited(self.log, range(2, last + 1), change)
-        answer = self.program.check(log)
-        return Repair(change, answer, numbers[min(answer.line, len(numbers)) - 1] if answer.line else None)
-
-    def gets_past(self, change: Change) -> bool:
-        """Whether the front part of the whole log gets past the refused line with the change."""
-        return self.in_front(change, (self.scene.later or self.scene.lines)[-1].at).reach > self.scene.refused.at
-
-    def repair_of(self, family: Family) -> Repair | None:
-        """The first change of a family that passes, in the whole log too; of those that have to be compared the one with which
-        it gets furthest."""
-        if family.probe is not None and not self.passes(family.probe):
-            return None
-        passing = (change for change in family.choices if self.passes(change) and self.is_needed(change))
-        repairs = []
-        for change in islice(passing, CHOICES):
-            if not self.gets_past(change):
-                self.failed.append(change)
-                continue
-            repairs.append(self.in_front(change, self.log.last_event))
-            if not family.furthest or repairs[-1].whole.accepted:
-                break
-        return max(repairs, key=lambda repair: repair.reach, default=None)
-
-    def is_needed(self, change: Change) -> bool:
-        """Whether no edit of the change can be left out, but a lock that is given back."""
-        others = [change.but(i) for i, edit in enumerate(change.edits) if not (isinstance(edit, Put) and edit.text.startswith("unlock "))]
-        return change.size == 1 or not any(map(self.passes, others))
-
-    # ---- search
-
-    @cached_property
-    def tlbis(self) -> Counter:
-        """How often the log has each TLBI, whichever PE issues it."""
-        return Counter(event_of(line.decode("latin-1")).rest for line in self.log.parts if line.startswith(b"tlbi "))
-
-    def alters_repeat(self, change: Change) -> bool:
-        """Whether it alters a TLBI that the log has so often that it is about no place of its own, as one that a processor's erratum
-        asks for behind each other one."""
-        altered = [self.log.event(edit.at) for edit in change.edits if isinstance(edit, Swap) and edit.at > 1]
-        return any(event.word == "tlbi" and self.tlbis[event.rest] >= OFTEN for event in altered)
-
-    def found_with(self, tries: Iterable[Family], before: list[Repair]) -> list[Repair]:
-        """Changes that pass, of which none shares an edit's site with one before: an ISB alone first, those that alter a repeat last
-        and before them TLBIs for all under a tag, which may hide other bugs; of these those with which the whole log gets furthest,
-        those next to the break, and moves last where it isn't about tags. Those that borrow another place's flush are kept apart."""
-        found: list[Repair] = []
-        for family in tries:
-            known = [repair.change for repair in (*before, *found)]
-            new = tuple(change for change in family.choices if not any(old.shares(change) for old in known)
-                        and (len(self.borrowing) < WANTED or self.home.has(change)))
-            repair = self.repair_of(replace(family, choices=new)) if new else None
-            if repair is not None:
-                (found if self.home.has(repair.change) and not self.is_alike(repair.whole) else self.borrowing).append(repair)
-            if len(found) == RANKED or len(self.failed) >= MOST_FAILED:
-                break
-        return sorted(found, key=lambda repair: (not repair.change.synchronises, self.alters_repeat(repair.change), bool(repair.change.idea),
-                                                 -repair.reach, self.farness(repair.change),
-                                                 repair.change.moves and not is_about_tags(self.scene)))
-
-    def search(self) -> list[Repair]:
-        """At most three repairs, the smallest first, and of one size those with which the whole log gets furthest."""
-        repairs = self.found_with(first_families(self.scene), [])
-        for size in range(1, LARGEST + 1):
-            near = self.near(repairs)
-            if len(near) >= WANTED or near and size == LARGEST or len(self.failed) >= MOST_FAILED:
-                break
-            repairs += self.found_with(families(self.scene, size), repairs)
-        return varied(self.near(repairs) or self.borrowing or self.found_with(last_resort(self.scene), []))
-
-    def near(self, repairs: list[Repair]) -> list[Repair]:
-        """Those that aren't further from the break than the first."""
-        return [repair for repair in repairs if self.farness(repair.change) <= self.farness(repairs[0].change)]
-
-    def farness(self, change: Change) -> int:
-        """How far from a break a change is: 0 among its next lines, and then by the number of digits of the distance; 0 for an
-        ISB, which belongs to a register write."""
-        if change.synchronises:
-            return 0
-        return min(max(abs(position_of(edit) - broken).bit_length() for edit in change.edits) // 4 for broken in self.home.breaks)
-
-
-def varied(repairs: list[Repair]) -> list[Repair]:
-    """The first three, of which no more than two change things of the same kinds, and no two do the same by one TLBI for all."""
-    chosen: list[Repair] = []
-    for repair in repairs:
-        alike = [one for one in chosen if one.change.kinds == repair.change.kinds]
-        same = [one for one in chosen if repair.change.idea and one.change.idea == repair.change.idea]
-        if not same and len(alike) < ALIKE and len(chosen) < WANTED:
-            chosen.append(repair)
-    return chosen
-
-
-def positions(repairs: list[Repair]) -> set[int]:
-    """The lines at which the repairs change something, those too behind which they put something in."""
-    return {position_of(edit) for repair in repairs for edit in repair.change.edits}
-
-
-# ---- the whole study
+LATER, LATER_OWN, LATER_LINES = 12, 24, 512
+# A log of so many events up to the refused line is judged as it is.
+WHOLE = 20_000
+# So many barriers and TLBIs behind a break are shown in the small log.
+SHOWN = 8
+# The part of the time behind which the small log is taken as it is, and that in which the lines are found that changes
+# need besides.
+SHRUNK, REDUCED = 0.3, 0.1
 
 
 @dataclass
 class Study:
-    """What was found of a refused log."""
+    """What was found of a refused log. `furthest` is, where nothing passes, the change that gets furthest, and
+    `cut_off` what wasn't tried to its end."""
 
     program: Program
     log: Log
@@ -189,7 +47,10 @@ class Study:
     loading: Numbers
     held: list[Held]
     stricter: list[str]
-    repairer: Repairer
+    repairer: Repairer | None
+    furthest: Repair | None = None
+    cut_off: list[str] = field(default_factory=list)
+    effort: Effort = field(default_factory=Effort)
     shrinker: Shrinker | None = None
 
     @property
@@ -201,32 +62,158 @@ class Study:
         return self.small[-1]
 
 
-def with_lacking(shrinker: Shrinker, repairer: Repairer, change: Change, tried: Numbers) -> Numbers:
-    """The lines that were tried and, of the others, those without which they get past the refused line by a change that doesn't
-    get the whole log past it."""
-    def holds(more: Numbers) -> bool:
-        numbers = sorted({*tried, *more})
-        return shrinker.holds(numbers) and repairer.is_alike(repairer.answer_to(change, numbers))
+class Studying:
+    """A study under way: each part of it is found when it is asked for."""
 
-    more = next(filter(holds, shrinker.fronts()), ())
-    return sorted({*tried, *reduced(shrinker.log, [at for at in more if at not in tried[:-1]], holds)}) if more else tried
+    def __init__(self, program: Program, log: Log, refusal: Verdict, effort: Effort | None = None):
+        self.program, self.log, self.refusal = program, log, refusal
+        self.effort = effort or Effort()
+        self.shrinker = Shrinker(program, log, refusal)
+        self.cut_short = ""
 
+    # ---- what is at hand
 
-def with_repairs(shrinker: Shrinker, repairer: Repairer, repairs: list[Repair], kept: list[Held], tried: Numbers) -> Numbers:
-    """The least of the lines that were tried which are refused as the whole log is, have the lines of what is held, and get past
-    their last one by each of the repairs."""
-    touched = (repair.change.touched for repair in repairs)
-    needed = {one.line.at for one in kept}.union(*touched) & set(tried)
+    @cached_property
+    def held(self) -> list[Held]:
+        return (mapping_at if self.refusal.name == TABLE_MAPPED else held_at)(self.program, self.log, self.refusal)
 
-    def holds(numbers: Numbers) -> bool:
-        return needed <= set(numbers) and shrinker.holds(numbers) and all(repairer.passes(repair.change, numbers) for repair in repairs)
+    @cached_property
+    def later(self) -> Lines:
+        """Lines behind the refused one: the next ones, and more of its own PE."""
+        first = self.refusal.line + 1
+        next_ones = range(first, min(self.log.last_event, self.refusal.line + LATER) + 1)
+        pe = self.log.bytes_of(self.refusal.line).split(b" ")[1]
+        own = [at for at in range(first, min(self.log.last_event, self.refusal.line + LATER_LINES) + 1)
+               if self.log.bytes_of(at).split(b" ")[1:2] == [pe]]
+        return self.log.lines(sorted({*next_ones, *own[:LATER_OWN]}))
 
-    start = sorted({*shrinker.least, *needed})
-    return reduced(shrinker.log, start if holds(start) else tried, holds)
+    @cached_property
+    def scene(self) -> Scene:
+        index = self.shrinker.index
+        lines = self.all_lines if len(self.all_lines) <= FEW else index.candidates([one.line.at for one in self.held])
+        places = tuple(one.place for one in self.held if one.place is not None)
+        return Scene(header_of(self.log.header), self.log.lines(lines), self.later, self.refusal, index.tags_near(),
+                     places, holding=index.holders)
+
+    @property
+    def all_lines(self) -> range:
+        return range(2, self.refusal.line + 1)
+
+    # ---- which lines are judged
+
+    @cached_property
+    def ideal(self) -> Change | None:
+        """A whole flush before the refused line, of all or of what is held, with which the log gets past that; None
+        where none does."""
+        judge = Judge(self.program, self.log, self.scene, self.all_lines)
+        whole = [family.choices for family in whole_sequences(self.scene)]
+        passes = lambda change: judge.answer_to(change).whole.accepted
+        return next((change for choices in whole[::-1] for change in choices if passes(change)), None)
+
+    def passes_ideally(self, numbers: Numbers) -> bool:
+        """Whether these lines have what the repaired log needs: with a whole flush they get past the refused line,
+        as the log does."""
+        judge = Judge(self.program, self.log, self.scene, numbers)
+        return self.ideal is None or judge.answer_to(self.ideal).whole.accepted
+
+    def is_kept(self, numbers: Numbers) -> bool:
+        return self.shrinker.holds(numbers) and self.passes_ideally(numbers)
+
+    @cached_property
+    def front(self) -> Numbers:
+        """The first lines to try that have what is needed: those of which the small log is a part."""
+        since = min((one.line.at for one in self.held), default=self.refusal.line)
+        fronts = (numbers for numbers in self.shrinker.fronts(since) if not self.effort.is_over_by(SHRUNK))
+        tries = map(self.shrinker.mended, fronts)
+        return next((numbers for numbers in tries if numbers and self.passes_ideally(numbers)), self.all_lines)
+
+    @property
+    def judged(self) -> Numbers:
+        return self.all_lines if len(self.all_lines) <= WHOLE else self.front
+
+    # ---- the small log
+
+    @cached_property
+    def small(self) -> Numbers:
+        """Lines of which none can be left out for that they are refused as the log is, and have what the repaired
+        log needs; with the lines that are held, and barriers and TLBIs behind the break, where these leave that as
+        it is."""
+        held = [one.line.at for one in self.held]
+        needed, kept = set(), self.front
+        for more in (held, *([at] for at in held), self.about_break, *self.loads):
+            wider = sorted({*kept, *more})
+            if self.is_kept(wider):
+                kept, needed = wider, needed.union(more)
+        is_over = lambda: self.effort.is_over_by(SHRUNK)
+        least = reduced_in_time(self.log, kept, lambda numbers: needed <= {*numbers} and self.is_kept(numbers), is_over)
+        self.cut_short = "the small log has lines that it may not need" if is_over() else ""
+        return least
+
+    @property
+    def loads(self) -> list[list[int]]:
+        """The last register writes of the PEs that flush there, each with the lines that make its root."""
+        index = self.shrinker.index
+        return [index.with_its_root(register) for register in index.loads_of(self.about_break)]
+
+    @cached_property
+    def about_break(self) -> list[int]:
+        """The first barriers and TLBIs behind a clear, in the sections of the breaks."""
+        home = Home(self.log, self.scene)
+        cleared = [at for at in home.breaks if not (self.log.event(at).value or 0) & 1]
+        return home.flushing(min(cleared, default=self.refusal.line))[:SHOWN]
+
+    # ---- the changes
+
+    @cached_property
+    def study(self) -> Study:
+        """The study with what is known before any change is tried."""
+        small, loading = self.log.lines(self.small), self.shrinker.index.loading()
+        return Study(self.program, self.log, self.refusal, self.scene, small, [], loading, self.held, [], None,
+                     effort=self.effort, shrinker=self.shrinker)
+
+    def found(self) -> Iterator[Repair]:
+        """The changes as they are found. Where those that pass the lines which are judged don't get the whole log
+        past the refused line, all lines are judged."""
+        study = self.study
+        for numbers in (self.judged, self.all_lines):
+            study.repairer = Repairer(self.program, self.log, self.scene, numbers, self.front, self.effort)
+            for repair in study.repairer.found():
+                study.repairs.append(replace(repair, note=use_after_free(self.shrinker, repair.change)))
+                yield study.repairs[-1]
+            if study.repairs or self.effort.is_over or numbers == self.all_lines:
+                break
+
+    def with_repairs(self) -> Numbers:
+        """The small log and what the repairs alter besides, where it is refused as it is and gets past its last line
+        by each of them."""
+        repairs, repairer = self.study.repairs, self.study.repairer
+        touched = {at for repair in repairs for at in repair.change.touched if at < self.refusal.line}
+        altered = sorted({*self.small, *touched})
+        pass_all = lambda numbers: all(repairer.passes(repair.change, numbers) for repair in repairs)
+        has_all = lambda numbers: self.shrinker.holds(numbers) and pass_all(numbers)
+        if has_all(altered):
+            return altered
+        is_over = self.effort.behind(REDUCED)
+        fronts = (sorted({*numbers, *altered}) for numbers in self.shrinker.fronts(self.refusal.line))
+        start = next((numbers for numbers in fronts if not is_over() and has_all(numbers)), None)
+        if start:
+            has_these = lambda numbers: {*altered} <= {*numbers} and has_all(numbers)
+            return reduced_in_time(self.log, start, has_these, is_over)
+        return altered if self.shrinker.holds(altered) else self.small
+
+    def ended(self) -> Study:
+        """All of it, behind the changes that were found."""
+        study = self.study
+        study.stricter = Strictness(self.program, self.log, self.refusal, self.scene, self.held).named()
+        study.furthest = None if study.repairs else study.repairer.furthest
+        study.small = self.log.lines(self.with_repairs())
+        study.cut_off = [text for text in (self.cut_short, study.repairer.cut_off) if text]
+        return study
 
 
 def refused_from(shrinker: Shrinker, since: int) -> int | None:
-    """The first line behind which the refused line is refused alike, from one on behind which it isn't; None where it is there too."""
+    """The first line behind which the refused line is refused alike, from one on behind which it isn't; None where
+    it is there too."""
     holds = lambda at: shrinker.holds([*range(2, at + 1), shrinker.refusal.line])
     if holds(since):
         return None
@@ -249,21 +236,8 @@ def use_after_free(shrinker: Shrinker, change: Change) -> str:
         "on, where the page left its tree" if left else ""
 
 
-def studied(program: Program, log: Log, refusal: Verdict) -> Study:
-    shrinker = Shrinker(program, log, refusal)
-    kept = (mapping_at if refusal.name == TABLE_MAPPED else held_at)(program, log, refusal)
-    near_tags = shrinker.index.tags_near()
-    places = tuple(one.place for one in kept if one.place is not None)
-    tried = shrinker.with_attempts([one.line.at for one in kept])
-    later = log.lines(range(refusal.line + 1, min(log.last_event, refusal.line + LATER) + 1))
-    for _ in range(ROUNDS):
-        scene = Scene(header_of(log.header), log.lines(tried), later, refusal, near_tags, places)
-        repairer = Repairer(program, log, scene)
-        repairs = repairer.search()
-        if repairs or not repairer.failed:
-            break
-        tried = with_lacking(shrinker, repairer, repairer.failed[0], tried)
-    repairs = [replace(repair, note=use_after_free(shrinker, repair.change)) for repair in repairs]
-    small = with_repairs(shrinker, repairer, repairs, kept, tried)
-    stricter = Strictness(program, log, refusal, scene, kept).named()
-    return Study(program, log, refusal, scene, log.lines(small), repairs, shrinker.index.loading(), kept, stricter, repairer, shrinker)
+def studied(program: Program, log: Log, refusal: Verdict, effort: Effort | None = None) -> Study:
+    studying = Studying(program, log, refusal, effort)
+    for _ in studying.found():
+        pass
+    return studying.ended()

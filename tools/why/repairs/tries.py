@@ -39,9 +39,12 @@ def moves(scene: Scene) -> Iterator[Change]:
 
 
 def goals(scene: Scene, line: Line) -> list[int]:
-    """Behind which lines a barrier, a TLBI or a register write may stand: before and behind another one."""
+    """Behind which lines a barrier, a TLBI or a register write may stand: before and behind another one, of those
+    that are next."""
     words_near = {"isb": ("tlbi", "msr"), "tlbi": ("dsb", "isb"), "dsb": ("tlbi", "w"), "msr": ("tlbi",)}[line.event.word]
-    return [after for goal in scene.in_window(*words_near) if goal is not line for after in (goal.at - 1, goal.at)]
+    goals_near = [goal.at for goal in scene.in_window(*words_near) if goal is not line]
+    others = sorted(goals_near, key=lambda at: abs(at - line.at))
+    return [after for at in others[:NEAR] for after in (at - 1, at)]
 
 
 def before_what_broke(scene: Scene) -> list[int]:
@@ -117,8 +120,8 @@ def other_value(line: Line, value: int) -> Change:
 
 
 def linking(scene: Scene) -> list[Line]:
-    """The writes that link a page, the last first; before them those that link the page which is reported, and before all
-    one of that page itself."""
+    """The writes that link a page, the last first; before them those that link the page which is reported, and
+    before all one of that page itself."""
     lines = [line for line in scene.lines[::-1] if line.event.next_page is not None]
     return sorted(lines, key=lambda line: (line.event.next_page != scene.reported, line.event.page != scene.reported))[:NEAR]
 
@@ -196,7 +199,8 @@ def made_clean(scene: Scene) -> Iterator[Change]:
 
 
 def mapped_elsewhere(scene: Scene) -> Iterator[Change]:
-    """Another output, in which no page is that the log names, for what may be a leaf that maps the page which is reported."""
+    """Another output, in which no page is that the log names, for what may be a leaf that maps the page which is
+    reported."""
     why = f"maps the page {hex(scene.reported)}, which is a table"
     for line in scene.of_word("w")[::-1]:
         for span in SPANS.get(line.event.value & 3, ()):
@@ -260,7 +264,8 @@ def unsynced_vmid(scene: Scene) -> Iterator[Change]:
 
 
 def other_operands(scene: Scene) -> Iterator[Family]:
-    """Other operands of a TLBI that has one which none may have: of these the one with which the whole log gets furthest."""
+    """Other operands of a TLBI that has one which none may have: of these the one with which the whole log gets
+    furthest."""
     event = scene.event
     operand = words.Operand(event.operation, event.operand)
     tried = {operand.without_hint(): Kind.HINT, words.shifted(event.operand): Kind.OPERAND}

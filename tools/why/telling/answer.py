@@ -4,19 +4,20 @@ from __future__ import annotations
 
 import json
 import textwrap
+from collections.abc import Callable
 from dataclasses import dataclass, field
 from functools import cached_property
 
 from why.asking import runs
 from why.asking.danger import Danger, asked_lines, danger_of
-from why.asking.least import BREAK_BEFORE_MAKE, reduced
+from why.asking.least import BREAK_BEFORE_MAKE, reduced_in_time
 from why.asking.program import Answer
 from why.log.lines import Line, Lines, written
 from why.log.stream import Source
 from why.repairs.changes import Drop, Edit, Move, Put
 from why.repairs.premises import PREMISES, Premise, under
 from why.repairs.strictness import LINK
-from why.repairs.study import Repair, Study, positions
+from why.repairs.study import Repair, Study, Studying, positions
 from why.telling import decoded, lanes
 from why.telling.danger import heading, of_json, texts_of
 from why.telling.edits import Teller
@@ -26,6 +27,8 @@ from why.telling.rules import cause_of, rule_of
 from why.telling.style import BOLD, Style
 
 TOO_MANY = 400
+# The part of the time in which the lines are found that a run needs.
+SHARE = 0.2
 
 
 @dataclass
@@ -44,7 +47,7 @@ def with_run(study: Study, asked: list[int], steps: list[str]) -> Lines:
     numbers = lambda kept: sorted({*small, *kept})
     holds = lambda kept: runs.steps_of(study.program, study.log.cut(numbers(kept))) == steps
     more = [*(at for at in asked if at not in small), study.refusal.line]
-    return study.log.lines(numbers(reduced(study.log, more, holds)))
+    return study.log.lines(numbers(reduced_in_time(study.log, more, holds, study.effort.behind(SHARE))))
 
 
 def told_run(study: Study) -> tuple[runs.Told | None, str]:
@@ -93,7 +96,7 @@ class Parts:
     """The parts of the answer, made from a study, each the lines of a text whose first is the heading."""
 
     study: Study
-    views: Views
+    views: Views | None
     style: Style
     teller: Teller = field(init=False)
 
@@ -106,7 +109,7 @@ class Parts:
     def small(self) -> list[str]:
         study = self.study
         count, whole = len(study.small), study.refusal.line - 1
-        title = f"The small log: {count} of {whole} events; the same rule refuses the last at the same place"
+        title = f"The small log: {count} of {whole} events; the last is refused alike"
         digits = len(str(study.refused.at))
         lines = [f"  {1:>{digits}}  {study.header}", *(f"  {line.at:>{digits}}  {line.text}" for line in study.small)]
         return [self.head(title), *lines]
@@ -125,15 +128,28 @@ class Parts:
         told = [wrapped(text, self.style) for text in texts_of(danger, refusal)] if danger else []
         return [self.head(heading(danger, refusal)), *told] if danger else []
 
+    def repair(self, count: int) -> list[str]:
+        """The repair of this number, the first with the heading before it."""
+        first, *more = self.teller.repair(self.study.repairs[count - 1])
+        head = [self.head("What would do, tried and judged by bbm")] if count == 1 else []
+        return [*head, wrapped(first, self.style, f"  {count}. ", "     "),
+                *(wrapped(text, self.style, "     ", "     ") for text in more)]
+
     def repairs(self) -> list[str]:
-        if not self.study.repairs:
-            return [self.head("What would do: nothing of what is tried (docs/WHY.md)")]
-        told = [self.head("What would do, tried and judged by bbm")]
-        for count, repair in enumerate(self.study.repairs, 1):
-            first, *more = self.teller.repair(repair)
-            told.append(wrapped(first, self.style, f"  {count}. ", "     "))
-            told += [wrapped(text, self.style, "     ", "     ") for text in more]
-        return told
+        count = len(self.study.repairs)
+        return [text for number in range(1, count + 1) for text in self.repair(number)] or \
+            [self.head("What would do: nothing of what is tried (docs/WHY.md)")]
+
+    def furthest(self) -> list[str]:
+        """Where nothing does, the change that gets furthest."""
+        furthest = self.study.furthest
+        told = self.teller.stopped(furthest, self.study.refusal) if furthest else []
+        return [self.head("What gets furthest, by bbm"), *(wrapped(text, self.style) for text in told)] if told else []
+
+    def cut_off(self) -> list[str]:
+        """What the time cut off."""
+        told = [wrapped(text, self.style) for text in self.study.cut_off]
+        return [self.head(f"Cut off after {self.study.effort.seconds} seconds (--seconds)"), *told] if told else []
 
     def stricter(self) -> list[str]:
         """Which of the cases it is in which `bbm` is stricter than the architecture."""
@@ -171,10 +187,25 @@ class Parts:
         return [self.head(f"Rule {rule.number} {rule.name} (docs/RULES.md)"), *(wrapped(text, self.style, later="  ") for text in told)]
 
 
-def text_of(answer: Answer, parts: Parts) -> str:
-    shown = [[answer.first], parts.small(), parts.held(), decoded.part(parts), parts.repairs(), parts.premise(),
-             parts.stricter(), parts.danger(), parts.run(), parts.lanes(), parts.rule()]
-    return "\n\n".join("\n".join(part) for part in shown if part) + "\n"
+class Saying:
+    """Says the answer part by part, as it is found."""
+
+    def __init__(self, answer: Answer, style: Style, emit: Callable[[str], None]):
+        self.answer, self.style, self.emit = answer, style, emit
+
+    def say(self, *parts: list[str]) -> None:
+        self.emit("".join("\n" + "\n".join([*part, ""]) for part in parts if part))
+
+    def all_of(self, studying: Studying, whole: bool) -> Parts:
+        self.emit(self.answer.first + "\n")
+        parts = Parts(studying.study, None, self.style)
+        self.say(parts.small(), parts.held(), decoded.part(parts))
+        for count, _ in enumerate(studying.found(), 1):
+            self.emit("\n" * (count == 1) + "\n".join([*parts.repair(count), ""]))
+        parts.views = views_of(studying.ended(), whole)
+        self.say([] if parts.study.repairs else parts.repairs(), parts.furthest(), parts.cut_off(), parts.premise(),
+                 parts.stricter(), parts.danger(), parts.run(), parts.lanes(), parts.rule())
+        return parts
 
 
 def other_answer(answer: Answer, source: Source) -> str:
@@ -210,6 +241,12 @@ def repair_of(repair: Repair, teller: Teller) -> dict:
     return {"edits": [edit_of(edit) for edit in repair.change.edits], "told": told, "whole": {**finding_of(repair.whole).fields, **at}}
 
 
+def furthest_of(furthest: Repair, parts: Parts) -> dict:
+    edits = [edit_of(edit) for edit in furthest.change.edits]
+    return {"edits": edits, "told": parts.teller.stopped(furthest, parts.study.refusal),
+            "whole": {**finding_of(furthest.whole).fields, "line": furthest.next_line}}
+
+
 def as_json(parts: Parts, finding: Finding) -> str:
     """One object on one line."""
     study, run = parts.study, parts.views.told
@@ -218,5 +255,7 @@ def as_json(parts: Parts, finding: Finding) -> str:
             "repairs": [repair_of(repair, parts.teller) for repair in study.repairs],
             **{premise.word: repair and repair_of(repair, parts.teller) for premise, repair in parts.by_premise.items()},
             **({"stricter": study.stricter} if study.stricter else {}), **of_json(parts.views.danger),
+            **({"furthest": furthest_of(study.furthest, parts)} if study.furthest else {}),
+            **({"cut_off": study.cut_off} if study.cut_off else {}),
             "run": {"lines": [line.at for line in run.lines], "told": run.told()} if run else None}
     return json.dumps({**finding.fields, **told}) + "\n"

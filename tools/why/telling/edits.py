@@ -7,6 +7,7 @@ import re
 from why.log import words
 from why.repairs.changes import Change, Edit, Kind, Move, Put, Swap
 from why.log.lines import Event, Log, event_of, header_of
+from why.asking.program import Verdict
 from why.repairs.study import Repair
 
 CONTIGUOUS = 1 << 52
@@ -77,6 +78,11 @@ def fault_of_value(old: Event, new: Event) -> str:
     return "doesn't fit"
 
 
+def what_of(texts: list[str]) -> str:
+    """The changes of these texts, in a word."""
+    return {1: "it", 2: "both"}.get(len(texts), "all of it")
+
+
 class Teller:
     """Tells the changes of one log."""
 
@@ -119,10 +125,21 @@ class Teller:
         texts = self.change(repair.change)
         if len(texts) == 1 and isinstance(repair.change.edits[0], Swap):
             texts = [f"{texts[0]} would do"]
-        what = {1: "it", 2: "both"}.get(len(texts), "all of it")
+        what = what_of(texts)
         texts += [edit.why for edit in repair.change.edits if isinstance(edit, Put) and edit.why] + [repair.note] * bool(repair.note)
         if repair.whole.accepted:
             return [*texts, f"with {what} the whole log is accepted"]
         refusal = repair.whole.refusal
         answer = f"{refusal.titled} at {hex(refusal.at)}" if refusal else re.sub(r" line \d+", "", repair.whole.first)
         return [*texts, f"with {what} the whole log gets to {self.log.line(repair.next_line).name}: {answer}"]
+
+    def stopped(self, furthest: Repair, refusal: Verdict) -> list[str]:
+        """A change that passes the rule that refuses, and what refuses then; nothing where that is told by no rule."""
+        then = furthest.whole.refusal
+        if then is None:
+            return []
+        line = self.log.line(furthest.next_line)
+        where = "the same line" if line.at == refusal.line else line.name
+        texts = self.change(furthest.change)
+        stops = f"{then.titled} refuses {where}, at {hex(then.at)}"
+        return [*texts, f"with {what_of(texts)} rule {refusal.rule} is past, and then {stops}"]
