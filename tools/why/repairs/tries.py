@@ -13,8 +13,8 @@ from why.asking.places import LAST_LEVEL
 from why.log import words
 from why.log.lines import ADDRESS_BITS, PAGE_BYTES, Header, Line
 from why.repairs.changes import Change, Drop, Kind, Move, Swap, one, puts
-from why.repairs.flushes import Family, away, broadcast, elsewhere, is_about_tags, loading, operands, sequences, under_its_vmid, whole_sequences
-from why.repairs.flushes import with_pe, with_words
+from why.repairs.flushes import Family, away, broadcast, elsewhere, is_about_tags, loading, operands, sequences
+from why.repairs.flushes import tlbis_for, under_its_vmid, whole_sequences, with_pe, with_words
 from why.repairs.scene import Scene
 
 NEAR = 8
@@ -333,6 +333,14 @@ def of_rule(scene: Scene, size: int) -> Iterator[Family]:
         yield from (flushed + zeroed(scene, reported) for flushed in sequences(scene, size - 1))
 
 
+def before_the_load(scene: Scene) -> Iterator[Family]:
+    """Where a tag was left, its flush right before the line that uses the tag again."""
+    at, pe = scene.refused.at - 1, scene.event.pe
+    for kind in scene.kinds[:1] if scene.is_about_left else ():
+        flushes = [(f"tlbi {pe} {text}", f"dsb {pe} {words.COMPLETING}") for text in tlbis_for(scene, kind)]
+        yield Family(tuple(puts(at, *flush) for flush in flushes))
+
+
 def families(scene: Scene, size: int) -> Iterator[Family]:
     """What is tried with so many edits; with `LARGEST` whole sequences."""
     if size == LARGEST:
@@ -341,6 +349,7 @@ def families(scene: Scene, size: int) -> Iterator[Family]:
     if size == 1:
         yield from each(moves(scene))
         yield from each(synchronised(scene))
+        yield from before_the_load(scene)
     if size == 2 and scene.header.asids_of_ttbr1 and is_about_tags(scene):
         yield from each(both_synchronised(scene))
     for other in scene.narrowed:
