@@ -160,7 +160,8 @@ class Options(Case):
     def test_table_of_the_documents(self):
         """docs/WHY.md has the options as the script takes them."""
         with open(f"{TOP}/docs/WHY.md", encoding="utf-8") as it:
-            rows = re.findall(r"(?m)^\| `(\w+)` \| (.*?) \| (.*?) \|$", it.read())
+            table = it.read().partition("| word | options |")[2]
+        rows = re.findall(r"(?m)^\| `(\w+)` \| (.*?) \| (.*?) \|$", table)
         for word, options, _ in rows:
             said, _, _ = self.run_in(f"bbm {word} --no-such")
             self.assertEqual(re.findall(r"\[(--[^]]*)\]", said), re.findall(r"`(--[^`]*)`", options.replace("\\", "")), word)
