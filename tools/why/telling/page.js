@@ -1,3 +1,4 @@
+// SPDX-License-Identifier: Apache-2.0
 {
   const sections = [...document.querySelectorAll("details")], rows = [...document.querySelectorAll("tbody tr")];
   const texts = sections.map((section, i) => (section.textContent + " " + rows[i].textContent).toLowerCase());
