@@ -115,7 +115,7 @@ class Options(Case):
             ("check --format xml", "--format xml: it may be gcc|github|json"), ("check --format", "--format needs a value"),
             ("check --format= log", "--format needs a value"), ("why --format gcc log", "--format gcc: it may be json"), ("findings --most 0", "--most 0: it may be a number from 1"),
             ("findings --format xml", "--format xml: it may be gcc|github|json|sarif"), ("findings --known", "--known needs a value"),
-            ("check -j", "--jobs needs a value"), ("check -j 0", "--jobs 0: it may be a number from 1"), ("findings -jx log", "findings takes no -jx"), ("why -j2 log", "why takes no --jobs"), ("slow log --least", "slow takes no --least"),
+            ("check -j", "--jobs needs a value"), ("check -j 0", "--jobs 0: it may be a number from 1"), ("findings -jx log", "findings takes no -jx"), ("pending -j2 log", "pending takes no --jobs"), ("why --seconds x", "--seconds x: it may be a number from 1"), ("slow log --least", "slow takes no --least"),
             ("why --who log", "why takes no --who"), ("why -x", "why takes no -x"), ("pending --page", "pending takes no --page"), ("pending --at ''", "--at needs a value"),
             ("pending --at", "--at needs a value"), ("pending --nth 2 log", "--nth is for the lines that --at names"), ("pending --at a --nth 0", "--nth 0: it may be a number from 1"),
             ("pending --at a --nth x", "--nth x: it may be a number from 1"), ("shrink --least=yes", "--least takes no value"), ("partial --pages", "partial takes no --pages"),
