@@ -66,7 +66,8 @@ def told_run(study: Study) -> tuple[runs.Told | None, str]:
 
 def views_of(study: Study, whole: bool) -> Views:
     """The lanes are those of the small log and of what the run takes besides; or where that is asked for those of all lines up to
-    the refused one, where they aren't too many. They follow the old entry of the first place that the refusal is about."""
+    the refused one, where they aren't too many. Where time ended before the small log had so few lines, they have the refused line alone. They
+    follow the old entry of the first place that the refusal is about."""
     told, no_run = told_run(study)
     danger = danger_of(study.program, study.log, study.refusal, study.shrinker)
     if told is None and danger and danger.told and study.refusal.rule == BREAK_BEFORE_MAKE:
@@ -74,6 +75,8 @@ def views_of(study: Study, whole: bool) -> Views:
     lines = study.small if whole or told is None else told.lines
     if whole and study.refusal.line <= TOO_MANY:
         lines = study.log.lines(range(2, study.refusal.line + 1))
+    if len(lines) > TOO_MANY:
+        lines = lines[-1:]
     chart = lanes.chart_of(study.program, study.header, lines, study.refusal, next(iter(study.scene.places), None))
     chart, walked = decoded.marked(chart, study.log), set()
     if told and lines is told.lines:
