@@ -11,9 +11,9 @@ import shutil
 import subprocess
 
 from ending import Unable
+from why.asking import program as asking
 
 TOP = os.path.dirname(os.path.dirname(os.path.realpath(__file__)))
-BUILT = os.path.join(TOP, "crates/bbm_cli/out/bbm_cli")
 SECONDS = 10
 PROMISED = os.path.join(TOP, "docs/OUTPUT.md")
 # With this status a part of a text comes, cut anywhere.
@@ -34,13 +34,22 @@ def options(tool, about, count, counted):
 
 def options_of_program(tool, about):
     words = argparse.ArgumentParser(tool, description=about, formatter_class=argparse.RawDescriptionHelpFormatter)
-    words.add_argument("--program", default=os.environ.get("BBM", BUILT), help="else that of BBM, or the built one")
+    words.add_argument("--program", help="else that of BBM, or the built one")
     return words
+
+
+def program(name=None):
+    """The program of that name, or that of BBM, or the built one."""
+    try:
+        return asking.named_or_built(name)
+    except asking.Unable as why:
+        raise Unable(str(why)) from why
 
 
 def asked(words, given=None):
     """What is asked for, where there is a program to run."""
     found = words.parse_args(given)
+    found.program = program(found.program)
     if not shutil.which(found.program):
         raise Unable(f"there is no program {found.program}")
     return found

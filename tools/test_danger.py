@@ -19,7 +19,7 @@ from why.log.lines import Log
 from why.telling.danger import short
 
 EXAMPLES = pathlib.Path(judging.TOP, "examples")
-PROGRAM = Program(os.environ.get("BBM", judging.BUILT))
+PROGRAM = Program(judging.program())
 # What is said of the logs whose names don't begin with `run`, and of some others.
 SAID = {
     "refusals/none_root_never_loaded": "strict, walk", "refusals/none_left_before_the_write": "strict, walk",

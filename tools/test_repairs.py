@@ -22,7 +22,7 @@ from why.log.lines import Log
 from why.repairs.study import Studying
 from why.telling.edits import Teller
 
-PROGRAM = os.path.realpath(os.environ.get("BBM", judging.BUILT))
+PROGRAM = os.path.realpath(judging.program())
 # So often each bug is planted in a test, and so many logs have none. The time of a test is no matter: the machine may
 # have other work.
 PLANTED, RIGHT, PATIENT = 2, 6, 600

@@ -2,27 +2,18 @@
 """The program that judges a log."""
 from __future__ import annotations
 
-import os
-import subprocess
-
 from converter.ending import Status, Unjudged
-from why.asking.program import Program, Unable, Verdict
+from why.asking.program import Program, Unable, Verdict, named_or_built
 
-SCRIPT = os.path.realpath(f"{__file__}/../../../../bbm")
 SAY_NOTHING = ("malformed", "limit")  # the verdicts that are no answer to a log of the converter
 
 
 def program_of(asked: str | None) -> Program:
-    """The one that is named, or $BBM, or the built one, of which the script knows whether its sources changed. Nothing is
-    built for it."""
-    return Program(asked or os.environ.get("BBM") or built())
-
-
-def built() -> str:
-    done = subprocess.run([SCRIPT, "--program"], stdout=subprocess.PIPE, text=True, check=False)
-    if done.returncode:
-        raise Unjudged(Status.FAULT, "there is no checker")
-    return done.stdout.strip()
+    """The one that is named, or $BBM, or the built one."""
+    try:
+        return Program(named_or_built(asked))
+    except Unable as why:
+        raise Unjudged(Status.FAULT, "there is no checker") from why
 
 
 def judge(program: Program, text: str) -> tuple[str, Verdict]:

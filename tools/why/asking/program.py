@@ -120,6 +120,18 @@ class Unable(Exception):
         self.status = status
 
 
+def named_or_built(name: str | None = None) -> str:
+    """The program of that name, or that of $BBM, or the built one of this checkout, of which the script `bbm` says where its
+    sources changed. Nothing is built for it."""
+    named = name or os.environ.get("BBM")
+    if named:
+        return named
+    done = subprocess.run([os.path.join(TOP, "bbm"), "--program"], stdout=subprocess.PIPE, text=True, check=False)
+    if done.returncode:
+        raise Unable(Status.UNABLE, "there is no program")
+    return done.stdout.strip()
+
+
 def emit(text: str) -> None:
     """Writes to standard output."""
     try:
