@@ -121,8 +121,8 @@ class Unable(Exception):
 
 
 def named_or_built(name: str | None = None) -> str:
-    """The program of that name, or that of $BBM, or the built one of this checkout, of which the script `bbm` says where its
-    sources changed. Nothing is built for it."""
+    """The program of that name, or that of $BBM, or the built one of this checkout, of which the script `bbm` says
+    where its sources changed. Nothing is built for it."""
     named = name or os.environ.get("BBM")
     if named:
         return named
