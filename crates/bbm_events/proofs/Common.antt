@@ -16,26 +16,29 @@ pub use Rattle.bbm_events.specs.Fits.{fits_heading, is_count, is_lock, is_operan
 pub use Rattle.bbm_events.specs.Fits.{is_root_lock, is_root_page, is_value, item_fits, label_fits}
 pub use Rattle.bbm_events.specs.Heading.{Heading, has_op, heading_ok, is_version, may_label, may_share}
 pub use Rattle.bbm_events.specs.Label.{is_label, is_label_byte}
-pub use Rattle.bbm_events.specs.Lines.{FieldRead, Fields, checked, cnp_field, cnp_fields, count_field, count_line}
-pub use Rattle.bbm_events.specs.Lines.{dsb_field, event_fields, event_item, exactly, found, header_field, header_fields}
-pub use Rattle.bbm_events.specs.Lines.{hyp_fields, is_marked, item_fields, kernel_fields, keyword_field, kind_field}
-pub use Rattle.bbm_events.specs.Lines.{label_field, label_fields, label_value, line_after, line_field, lock_field}
-pub use Rattle.bbm_events.specs.Lines.{lock_text, lock_value, magic_field, next_field, op_field, operand_field}
-pub use Rattle.bbm_events.specs.Lines.{operand_fields, page_field, passing, pe_alone, pe_and, pe_and_two, pe_field}
-pub use Rattle.bbm_events.specs.Lines.{place_field, reg_field, root_line, root_lock, root_lock_field, root_page_field}
-pub use Rattle.bbm_events.specs.Lines.{tlbi_line, value_field, version_field, whole, world_fields, ◌>>=◌}
+pub use Rattle.bbm_events.specs.Codec.{Codec, Fields, decimals, field, field_or, found, hexes, line, mapped, next_field}
+pub use Rattle.bbm_events.specs.Codec.{passing, whole, words, ◌&>◌, ◌>>=◌}
+pub use Rattle.bbm_events.specs.Lines.{asid_from_field, checked, cnp_field, cnp_fields, count_field, dsb_field}
+pub use Rattle.bbm_events.specs.Lines.{event_fields, event_item, event_line, exactly, header_field, header_fields}
+pub use Rattle.bbm_events.specs.Lines.{heading_end, heading_line, is_marked, item_fields, keyword_field, kind_field}
+pub use Rattle.bbm_events.specs.Lines.{label_field, label_fields, label_value, line_after, lock_field, lock_text}
+pub use Rattle.bbm_events.specs.Lines.{magic_field, number_field, op_field, operand_field, operand_fields, page_field}
+pub use Rattle.bbm_events.specs.Lines.{pe_field, place_field, reg_field, root_lock, root_lock_field, root_page_field}
+pub use Rattle.bbm_events.specs.Lines.{shared_field, value_field, version_after, version_field, world_after, world_field}
 pub use Rattle.bbm_events.specs.Spelling.{fields, hex, joined, where_spelled}
 pub use Rattle.bbm_events.specs.Words.{asid_from_word, asid_froms, cnp_word, cnps, dsb_word, dsbs, keyword_word}
 pub use Rattle.bbm_events.specs.Words.{keywords, kind_word, kinds, op_word, ops, reg_word, regs, with_word}
+pub use Rattle.bbm_events.specs.Words.{world_word, world_words}
 pub use Rattle.bbm_events.specs.declared.event.Event.{Event}
 pub use Rattle.bbm_events.specs.declared.event.Item.{Item}
 pub use Rattle.bbm_events.specs.declared.keyword.Keyword.{Keyword}
 pub use Rattle.bbm_events.specs.declared.malformed.Malformed.{Malformed}
 pub use Rattle.bbm_events.specs.declared.malformed.Malformed.TheVariants.{BadAddress, BadHeader, BadLabel, BadNumber}
-pub use Rattle.bbm_events.specs.declared.malformed.Malformed.TheVariants.{BadPe, MissingField, NoMagic, UnknownWord}
+pub use Rattle.bbm_events.specs.declared.malformed.Malformed.TheVariants.{BadPe, ExtraField, MissingField, NoMagic, UnknownWord}
 pub use Rattle.bbm_regimes.specs.World.{page_count, world_ok}
 pub use Rattle.bbm_regimes.specs.declared.regime.AsidFrom.{AsidFrom}
 pub use Rattle.bbm_regimes.specs.declared.regime.HypWorld.{HypWorld}
+pub use Rattle.bbm_regimes.specs.declared.regime.KernelWorld.{KernelWorld}
 pub use Rattle.bbm_regimes.specs.declared.regime.Kind.{Kind}
 pub use Rattle.bbm_regimes.specs.declared.regime.Kind.TheVariants.{El2, S2, Ttbr0, Ttbr1}
 pub use Rattle.bbm_regimes.specs.declared.regime.Reg.{Reg}

@@ -1,7 +1,10 @@
 -- Pieces that are joined by spaces and whose bytes all show are the fields of what they are joined to, which is one line.
 use Rattle.bbm_events.proofs.Common.{◌≡◌, ℕ, zero, suc, ◌/◌, ◌%◌, List, [], ◌∷◌, ◌++◌, Bool, true, false, ◌&&◌, cond}
 use Rattle.bbm_events.proofs.Common.{◌==◌, refl, ap, sym, ◌∙◌, arith, nat_lt, digit_glyph, digits_onto, and_parts}
-use Rattle.bbm_events.proofs.Common.{nat_tests, fields, joined}
+use Rattle.bbm_events.proofs.Common.{nat_tests, fields, joined, ◌≤◌, length, not, subst}
+use Rattle.bbm_events.specs.Spelling.{is_plain}
+use Rattle.std.proofs.Common.{◌+◌, append-nil, length-append}
+use Rattle.std.proofs.lemmas.Bool.{and_from}
 use Rattle.std.specs.Fmt.{digits}
 use Rattle.std.specs.List.{onto_first}
 use Rattle.std.proofs.lemmas.List.Splits.{slice_split-cons_no, join_with_byte-slice_split}
@@ -62,3 +65,45 @@ onto_visible (suc k) base n acc h = by (n / base == 0) (onto_visible k base (n /
 pub digits_visible : (base n : ℕ) → visible (digits base false n) ≡ true
 unfolding digits
 digits_visible base n = onto_visible 64 base n [] refl
+
+-- the bytes of fields, each with one behind it
+abbrev pub size : List (List ℕ) → ℕ
+size [] = 0
+size (piece ∷ pieces) = suc (length piece) + size pieces
+
+pub size_append : (xs ys : List (List ℕ)) → size (xs ++ ys) ≡ size xs + size ys
+size_append [] ys = omega arith
+size_append (x ∷ xs) ys = let more = size_append xs ys in omega (arith, more)
+
+pub joined_size : (pieces : List (List ℕ)) → length (joined pieces) ≤ size pieces
+joined_size [] = omega arith
+joined_size (piece ∷ []) = omega arith
+joined_size (piece ∷ next ∷ pieces) =
+    let more = joined_size (next ∷ pieces) in
+    omega (arith, more, length-append piece (32 ∷ joined (next ∷ pieces)))
+
+pub visible_append : (xs ys : List (List ℕ)) → all_visible xs ≡ true → all_visible ys ≡ true → all_visible (xs ++ ys) ≡ true
+visible_append [] ys p q = q
+visible_append (x ∷ xs) ys p q =
+    let parts = and_parts (visible x) (all_visible xs) p in
+    and_from _ _ parts.0 (visible_append xs ys parts.1 q)
+
+-- ---- no newline
+
+no_newline : (byte : ℕ) → nat_lt 32 byte ≡ true → not (byte == 10) ≡ true
+no_newline byte shows = grind (arith, nat_tests)
+
+visible_then : (piece rest : List ℕ) → visible piece ≡ true → is_plain rest ≡ true → is_plain (piece ++ rest) ≡ true
+visible_then [] rest shows clean = clean
+visible_then (byte ∷ bytes) rest shows clean =
+    let parts = and_parts (nat_lt 32 byte) (visible bytes) shows in
+    rw (no_newline byte parts.0, visible_then bytes rest parts.1 clean) refl
+
+pub joined_plain : (pieces : List (List ℕ)) → all_visible pieces ≡ true → is_plain (joined pieces) ≡ true
+joined_plain [] shows = refl
+joined_plain (piece ∷ []) shows =
+    subst (λ (line : List ℕ). is_plain line ≡ true) (append-nil piece)
+    (visible_then piece [] (and_parts (visible piece) true shows).0 refl)
+joined_plain (piece ∷ next ∷ pieces) shows =
+    let parts = and_parts (visible piece) (all_visible (next ∷ pieces)) shows in
+    visible_then piece (32 ∷ joined (next ∷ pieces)) parts.0 (joined_plain (next ∷ pieces) parts.1)

@@ -1,14 +1,15 @@
 mod Common
-pub mod Causes
 pub mod CertificateLines
+pub mod Codecs
 pub mod Counts
+pub mod HeaderLines
+pub mod ItemLines
 pub mod Joining
 pub mod Labels
+pub mod LineFields
 pub mod MachineLines
-pub mod OneLine
 pub mod OneSpelling
-pub mod Readings
+pub mod Ranges
+pub mod Tables
+pub mod WordRows
 pub mod WordsRead
-pub mod Written
-pub mod PlainLines
-pub mod PlainClaims

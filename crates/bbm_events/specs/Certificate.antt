@@ -16,13 +16,12 @@ use Rattle.bbm_events.specs.declared.certificate.ClaimWord.TheVariants as second
 use Rattle.bbm_events.specs.declared.certificate.TagWord.{TagWord}
 use Rattle.bbm_events.specs.declared.certificate.TagWord.TheVariants as word
 use Rattle.bbm_events.specs.declared.malformed.Malformed.{Malformed}
-use Rattle.bbm_events.specs.declared.malformed.Malformed.TheVariants.{NoMagic, UnknownWord, BadNumber}
+use Rattle.bbm_events.specs.declared.malformed.Malformed.TheVariants.{NoMagic, BadNumber}
 use Rattle.bbm_events.specs.Heading.{Heading}
-use Rattle.bbm_events.specs.Spelling.{fields, joined, hex, decimal_value}
-use Rattle.bbm_events.specs.Words.{with_word}
+use Rattle.bbm_events.specs.Spelling.{fields, joined, hex}
 use Rattle.bbm_events.specs.Fits.{is_pe, is_place, is_count}
-use Rattle.bbm_events.specs.Lines.{◌>>=◌, Fields, FieldRead, passing, line_field, pe_field, place_field, count_field}
-use Rattle.bbm_events.specs.Lines.{whole, count_line}
+use Rattle.bbm_events.specs.Codec.{◌>>=◌, Fields, Codec, decimals, words, ◌&>◌, ◌&◌, mapped, line}
+use Rattle.bbm_events.specs.Lines.{pe_field, place_field, count_field}
 
 -- the first line of a certificate
 abbrev pub certificate_line : List ℕ
@@ -106,83 +105,55 @@ claim_fits h (item.End count) = is_count count
 
 -- The fields of claims.
 
-abbrev pub certificate_word_field : Fields → FieldRead CertificateWord
-certificate_word_field = line_field UnknownWord (with_word certificate_word certificate_words)
+abbrev pub certificate_word_field : Codec CertificateWord
+certificate_word_field = words certificate_word certificate_words
 
-abbrev pub claim_word_field : Fields → FieldRead ClaimWord
-claim_word_field = line_field UnknownWord (with_word claim_word claim_words)
+abbrev pub claim_word_field : Codec ClaimWord
+claim_word_field = words claim_word claim_words
 
-abbrev pub tag_word_field : Fields → FieldRead TagWord
-tag_word_field = line_field UnknownWord (with_word tag_word tag_words)
+abbrev pub tag_word_field : Codec TagWord
+tag_word_field = words tag_word tag_words
 
-abbrev pub tag_number_field : TagWord → Fields → FieldRead ℕ
-tag_number_field word = line_field BadNumber (λ text. passing (has_number word) (decimal_value text))
+abbrev pub tag_number_field : TagWord → Codec ℕ
+tag_number_field word = decimals BadNumber (has_number word)
 
 -- `TAGKIND NUM`
-abbrev pub tag_fields : Fields → FieldRead Tag
-tag_fields rest = do
-  word ← tag_word_field rest
-  number ← tag_number_field word.0 word.1
-  Ok (tag_with word.0 number.0, number.1)
+abbrev pub tag_fields : Codec Tag
+tag_fields = mapped (tag_word_field &> tag_number_field) (λ (word, n). tag_with word n) (λ tag. (word_of_tag tag, number_of_tag tag))
 
-abbrev pub position_field : Fields → FieldRead ℕ
+abbrev pub position_field : Codec ℕ
 position_field = count_field
 
 -- `T D`, a TLBI and the DSB that answers it
-abbrev pub flush_fields : Fields → FieldRead (ℕ × ℕ)
-flush_fields rest = do
-  t ← position_field rest
-  d ← position_field t.1
-  Ok ((t.0, d.0), d.1)
+abbrev pub flush_fields : Codec (ℕ × ℕ)
+flush_fields = position_field & position_field
 
--- `PE PLACE B T D`
-abbrev pub place_line : Heading → Fields → Result ClaimItem Malformed
-place_line h rest = do
-  pe ← pe_field h rest
-  place ← place_field pe.1
-  b ← position_field place.1
-  flush ← flush_fields b.1
-  whole (item.Claim (Place pe.0 place.0 b.0 flush.0.0 flush.0.1)) flush.1
-
--- `PE PLACE B T1 D1 T2 D2`
-abbrev pub two_line : Heading → Fields → Result ClaimItem Malformed
-two_line h rest = do
-  pe ← pe_field h rest
-  place ← place_field pe.1
-  b ← position_field place.1
-  half ← flush_fields b.1
-  other ← flush_fields half.1
-  whole (item.Claim (Two pe.0 place.0 b.0 half.0.0 half.0.1 other.0.0 other.0.1)) other.1
-
--- `PE TAGKIND NUM T D`
-abbrev pub tag_line : Heading → Fields → Result ClaimItem Malformed
-tag_line h rest = do
-  pe ← pe_field h rest
-  tag ← tag_fields pe.1
-  flush ← flush_fields tag.1
-  whole (item.Claim (Taken pe.0 tag.0 flush.0.0 flush.0.1)) flush.1
-
--- The table of claims: what follows each second word.
+-- The table of claims: what follows each second word, and what it says.
 abbrev pub claim_after : Heading → ClaimWord → Fields → Result ClaimItem Malformed
-claim_after h second.Place = place_line h
-claim_after h second.Two = two_line h
-claim_after h second.Tag = tag_line h
+claim_after h second.Place =
+    line (pe_field h & place_field & position_field & flush_fields)
+    (λ (((pe, place), b), (t, d)). item.Claim (Place pe place b t d))
+claim_after h second.Two =
+    line (pe_field h & place_field & position_field & flush_fields & flush_fields)
+    (λ ((((pe, place), b), (t1, d1)), (t2, d2)). item.Claim (Two pe place b t1 d1 t2 d2))
+claim_after h second.Tag =
+    line (pe_field h & tag_fields & flush_fields) (λ ((pe, tag), (t, d)). item.Claim (Taken pe tag t d))
 
 -- the word of a claim and its fields
 abbrev pub any_claim : Heading → Fields → Result ClaimItem Malformed
 any_claim h rest = do
-  word ← claim_word_field rest
+  word ← claim_word_field.read rest
   claim_after h word.0 word.1
 
 -- The table of lines: what follows each first word.
 abbrev pub certificate_after : Heading → CertificateWord → Fields → Result ClaimItem Malformed
 certificate_after h first.Claim = any_claim h
-certificate_after h first.End = count_line item.End
+certificate_after h first.End = line count_field item.End
 
 -- A line of a certificate after its first.
 unfoldable pub claim_of : Heading → List ℕ → Result ClaimItem Malformed
 claim_of h line = do
-  word ← certificate_word_field (fields line)
+  word ← certificate_word_field.read (fields line)
   certificate_after h word.0 word.1
 
 -- The other direction: the fields behind `c`.

@@ -1,6 +1,7 @@
 -- What a log's header says.
 -- Source: project's own choice.
-use Rattle.std.specs.Prelude.{ℕ, Bool, false, ◌&&◌, ◌||◌, not, nat_le, nat_lt, if◌then◌else◌}
+use Rattle.std.specs.Prelude.{ℕ, List, [], ◌∷◌, Bool, true, false, ◌&&◌, ◌||◌, not, nat_le, nat_lt, if◌then◌else◌, codes}
+use Rattle.std.specs.List.{list_all}
 use Rattle.bbm_regimes.specs.declared.regime.Kind.TheVariants.{S2, Ttbr0}
 use Rattle.bbm_regimes.specs.declared.regime.World.{World}
 use Rattle.bbm_regimes.specs.World.{kind_in_world, world_ok}
@@ -47,10 +48,39 @@ nulls_everywhere version = nat_le 5 version
 abbrev pub no_words : HeaderWords
 no_words = record { unflushed = false; inorder = false; isolated = false }
 
--- Words stand from version 5 on; `inorder` is one of the Kernel world, `isolated` of the Hyp world.
+-- a word of the header: its name, which worlds have it, whether it stands, and the words where it stands or doesn't
+pub record WordRow : Type 0 where
+  pub name : List ℕ
+  pub of_world : World → Bool
+  pub stands : HeaderWords → Bool
+  pub put : Bool → HeaderWords → HeaderWords
+
+-- The words, in their order. `inorder` is one of the Kernel world, `isolated` of the Hyp world.
+abbrev pub word_rows : List WordRow
+word_rows =
+    record {
+      name = codes "unflushed";
+      of_world = λ _. true;
+      stands = λ words. words.unflushed;
+      put = λ stands words. record words { unflushed = stands };
+    }
+    ∷ record {
+      name = codes "inorder";
+      of_world = λ world. kind_in_world world Ttbr0;
+      stands = λ words. words.inorder;
+      put = λ stands words. record words { inorder = stands };
+    }
+    ∷ record {
+      name = codes "isolated";
+      of_world = λ world. kind_in_world world S2;
+      stands = λ words. words.isolated;
+      put = λ stands words. record words { isolated = stands };
+    }
+    ∷ []
+
+-- Words stand from version 5 on, each in the worlds that have it.
 abbrev pub words_ok : ℕ → World → HeaderWords → Bool
-words_ok version world words = (has_words version || not (words.unflushed || (words.inorder || words.isolated)))
-    && ((kind_in_world world Ttbr0 || not words.inorder) && (kind_in_world world S2 || not words.isolated))
+words_ok version world words = list_all (λ row. not (row.stands words) || (has_words version && row.of_world world)) word_rows
 
 abbrev pub heading_ok : Heading → Bool
 heading_ok h = is_version h.version && are_pes h.version h.pes && (may_share h.version || not h.cnp)

@@ -1,5 +1,6 @@
 pub mod Causes
 pub mod Certificate
+pub mod Codec
 pub mod Fits
 pub mod Heading
 pub mod Label

@@ -1,7 +1,7 @@
 -- The grammar of machine lines, those of a run that aren't lines of its log: which step a line spells, or the
 -- first cause for which it spells none, and the one line of a step.
 -- Source: project's own choice.
-use Rattle.std.specs.Prelude.{ℕ, ◌^◌, List, [], ◌∷◌, Bool, true, ◌&&◌, nat_lt, ◌==◌, Result, codes, decimal}
+use Rattle.std.specs.Prelude.{ℕ, ◌^◌, List, [], ◌∷◌, Bool, true, ◌&&◌, nat_lt, ◌==◌, Result, codes, decimal, bytes_eq}
 use Rattle.bbm_regimes.specs.declared.regime.Kind.{Kind}
 use Rattle.bbm_regimes.specs.declared.regime.Kind.TheVariants.{El2}
 use Rattle.bbm_events.specs.declared.machine.MachineLine.{MachineLine}
@@ -11,11 +11,11 @@ use Rattle.bbm_events.specs.declared.machine.MachineWord.TheVariants as second
 use Rattle.bbm_events.specs.declared.malformed.Malformed.{Malformed}
 use Rattle.bbm_events.specs.declared.malformed.Malformed.TheVariants.{UnknownWord, BadNumber}
 use Rattle.bbm_events.specs.Heading.{Heading, may_share}
-use Rattle.bbm_events.specs.Spelling.{fields, joined, hex, decimal_value}
-use Rattle.bbm_events.specs.Words.{with_word, kind_word}
+use Rattle.bbm_events.specs.Spelling.{fields, joined, hex}
+use Rattle.bbm_events.specs.Words.{kind_word}
 use Rattle.bbm_events.specs.Fits.{is_pe, is_place, is_value}
-use Rattle.bbm_events.specs.Lines.{◌>>=◌, Fields, FieldRead, passing, exactly, line_field, pe_field, kind_field}
-use Rattle.bbm_events.specs.Lines.{place_field, value_field, whole}
+use Rattle.bbm_events.specs.Codec.{◌>>=◌, Fields, Codec, field, decimals, some_words, ◌&>◌, ◌&◌, line}
+use Rattle.bbm_events.specs.Lines.{exactly, pe_field, kind_field, place_field, value_field}
 
 -- the word of a step
 abbrev pub machine_word : MachineWord → List ℕ
@@ -51,63 +51,34 @@ machine_fits h (Drop entry) = is_entry entry
 
 -- The fields of machine lines.
 
-abbrev pub mark_field : Fields → FieldRead (List ℕ)
-mark_field = line_field UnknownWord (exactly (codes "m"))
+abbrev pub mark_field : Codec (List ℕ)
+mark_field = field UnknownWord (exactly (codes "m")) (λ _. codes "m") (bytes_eq (codes "m"))
 
-abbrev pub machine_word_field : ℕ → Fields → FieldRead MachineWord
-machine_word_field version =
-    line_field UnknownWord (λ text. passing (has_machine_word version) (with_word machine_word machine_words text))
+abbrev pub machine_word_field : ℕ → Codec MachineWord
+machine_word_field version = some_words machine_word machine_words (has_machine_word version)
 
-abbrev pub tag_field : Kind → Fields → FieldRead ℕ
-tag_field kind = line_field BadNumber (λ text. passing (is_tag kind) (decimal_value text))
+abbrev pub tag_field : Kind → Codec ℕ
+tag_field kind = decimals BadNumber (is_tag kind)
 
-abbrev pub entry_field : Fields → FieldRead ℕ
-entry_field = line_field BadNumber (λ text. passing is_entry (decimal_value text))
+abbrev pub entry_field : Codec ℕ
+entry_field = decimals BadNumber is_entry
 
--- `PE KIND TAG PLACE VALUE`
-abbrev pub start_line : Heading → Fields → Result MachineLine Malformed
-start_line h rest = do
-  pe ← pe_field h rest
-  kind ← kind_field pe.1
-  tag ← tag_field kind.0 kind.1
-  place ← place_field tag.1
-  value ← value_field place.1
-  whole (Start pe.0 kind.0 tag.0 place.0 value.0) value.1
-
--- `ENTRY PLACE VALUE`
-abbrev pub extend_line : Fields → Result MachineLine Malformed
-extend_line rest = do
-  entry ← entry_field rest
-  place ← place_field entry.1
-  value ← value_field place.1
-  whole (Extend entry.0 place.0 value.0) value.1
-
--- `ENTRY`
-abbrev pub entry_line : (ℕ → MachineLine) → Fields → Result MachineLine Malformed
-entry_line step rest = do
-  entry ← entry_field rest
-  whole (step entry.0) entry.1
-
--- `ENTRY PE`
-abbrev pub share_line : Heading → Fields → Result MachineLine Malformed
-share_line h rest = do
-  entry ← entry_field rest
-  pe ← pe_field h entry.1
-  whole (Share entry.0 pe.0) pe.1
-
--- The table of machine lines: what follows each second word.
+-- The table of machine lines: what follows each second word, and what it says.
 abbrev pub machine_after : Heading → MachineWord → Fields → Result MachineLine Malformed
-machine_after h second.Start = start_line h
-machine_after h second.Extend = extend_line
-machine_after h second.Combine = entry_line Combine
-machine_after h second.Share = share_line h
-machine_after h second.Drop = entry_line Drop
+machine_after h second.Start =
+    line (pe_field h & kind_field &> (λ x. tag_field x.1) & place_field & value_field)
+    (λ ((((pe, kind), tag), place), value). Start pe kind tag place value)
+machine_after h second.Extend =
+    line (entry_field & place_field & value_field) (λ ((entry, place), value). Extend entry place value)
+machine_after h second.Combine = line entry_field Combine
+machine_after h second.Share = line (entry_field & pe_field h) (λ (entry, pe). Share entry pe)
+machine_after h second.Drop = line entry_field Drop
 
 -- a machine line: `m`, the word of the step, and its fields
 unfoldable pub machine_of : Heading → List ℕ → Result MachineLine Malformed
 machine_of h line = do
-  mark ← mark_field (fields line)
-  word ← machine_word_field h.version mark.1
+  mark ← mark_field.read (fields line)
+  word ← (machine_word_field h.version).read mark.1
   machine_after h word.0 word.1
 
 -- The other direction: the fields behind `m`.

@@ -22,6 +22,8 @@ use Rattle.bbm_tlbi_scope.specs.declared.op.TlbiOp.TheVariants.{Aside1, Aside1is
 use Rattle.bbm_tlbi_scope.specs.declared.op.TlbiOp.TheVariants.{Ripas2e1, Ripas2e1is, Ripas2le1, Ripas2le1is, Rvae1}
 use Rattle.bbm_tlbi_scope.specs.declared.op.TlbiOp.TheVariants.{Rvae1is, Rvale1, Rvale1is, Rvaae1, Rvaae1is, Rvaale1}
 use Rattle.bbm_tlbi_scope.specs.declared.op.TlbiOp.TheVariants.{Rvaale1is}
+use Rattle.bbm_events.specs.declared.header_words.WorldWord.{WorldWord}
+use Rattle.bbm_events.specs.declared.header_words.WorldWord.TheVariants as world
 use Rattle.bbm_events.specs.declared.keyword.Keyword.{Keyword}
 use Rattle.bbm_events.specs.declared.keyword.Keyword.TheVariants as first
 
@@ -49,6 +51,14 @@ abbrev pub keywords : List Keyword
 keywords =
     first.Init ∷ first.Null ∷ first.Root ∷ first.Unroot ∷ first.Write ∷ first.Dsb ∷ first.Dmb ∷ first.Isb
     ∷ first.Tlbi ∷ first.Msr ∷ first.Lock ∷ first.Unlock ∷ first.End ∷ []
+
+-- the world of a header.
+abbrev pub world_word : WorldWord → List ℕ
+world_word world.Hyp = codes "hyp"
+world_word world.Kernel = codes "kernel"
+
+abbrev pub world_words : List WorldWord
+world_words = world.Hyp ∷ world.Kernel ∷ []
 
 -- whether TLBs are shared.
 abbrev pub cnp_word : Bool → List ℕ

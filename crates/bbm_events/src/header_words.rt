@@ -1,5 +1,14 @@
 //! What a header says by words of its own.
 
+/// The word of the world in a header. Source: project's own choice.
+#[derive(Clone, Copy, PartialEq, Eq)]
+pub enum WorldWord {
+    /// `hyp`: the numbers of the Hyp world follow.
+    Hyp,
+    /// `kernel`: those of the Kernel world do.
+    Kernel,
+}
+
 /// The words that a header of version 5 may have behind its numbers, besides `cnp`: each says what the log relies on,
 /// or what it may do. Source: project's own choice.
 #[derive(Clone, Copy, PartialEq, Eq)]

@@ -13,25 +13,25 @@ ghost use Rattle.bbm_events.specs.Lines.{header_of, item_of, header_line, item_l
 ghost use Rattle.bbm_events.specs.Spelling.{is_plain};
 
 /// Each header that a line spells has its numbers in their ranges. The law is `HeadersAreInRange`.
-#[tactic(auto, using(crate::proofs::Readings::header_of_ok))]
+#[tactic(auto, using(crate::proofs::HeaderLines::header_of_ok))]
 pub fn law_header_in_range()
     ensures { HeadersAreInRange }
 {}
 
 /// Each item that a line spells fits the header under which the line is read. The law is `ItemsFit`.
-#[tactic(auto, using(crate::proofs::Readings::item_of_fits))]
+#[tactic(auto, using(crate::proofs::ItemLines::item_of_fits))]
 pub fn law_item_fits()
     ensures { ItemsFit }
 {}
 
 /// A line that spells no header has a cause of line 1.
-#[tactic(auto, using(crate::proofs::Causes::header_of_causes))]
+#[tactic(auto, using(crate::proofs::HeaderLines::header_of_causes))]
 pub fn law_header_causes()
     ensures { (line : List ℕ) → IfErr (header_of line) IsHeaderCause }
 {}
 
 /// A line that spells no item has a cause of a line after the header.
-#[tactic(auto, using(crate::proofs::Causes::item_of_causes))]
+#[tactic(auto, using(crate::proofs::ItemLines::item_of_causes))]
 pub fn law_item_causes()
     ensures { (heading : Heading) (line : List ℕ) → IfErr (item_of heading line) IsLineCause }
 {}
@@ -49,7 +49,7 @@ pub fn law_written_is_a_line()
 {}
 
 /// Each header and each item has one line: what a line is read as is written as that line.
-#[tactic(auto, using(crate::proofs::OneLine::header_one_line, crate::proofs::OneLine::item_one_line))]
+#[tactic(auto, using(crate::proofs::HeaderLines::header_one_line, crate::proofs::ItemLines::item_one_line))]
 pub fn law_one_line()
     ensures header { (line : List ℕ) (heading : Heading) → header_of line ≡ Ok heading → line ≡ header_line heading }
     ensures item { (heading : Heading) (line : List ℕ) (item : Item) → item_of heading line ≡ Ok item → line

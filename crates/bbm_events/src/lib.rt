@@ -19,7 +19,7 @@ pub use claim::Claim;
 pub use event::{Event, Item};
 pub use fitting::{fits, has_op, nulls_everywhere};
 pub use header::Header;
-pub use header_words::{HeaderWords, NO_WORDS};
+pub use header_words::{HeaderWords, NO_WORDS, WorldWord};
 pub use keyword::Keyword;
 pub use label::Label;
 pub use laws::{

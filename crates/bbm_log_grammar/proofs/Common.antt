@@ -22,7 +22,8 @@ pub use Rattle.bbm_barriers.specs.declared.Types.TheVariants.{All, Loads, Stores
 pub use Rattle.bbm_events.specs.Fits.{item_fits}
 pub use Rattle.bbm_events.specs.Heading.{Heading, heading_ok}
 pub use Rattle.bbm_events.specs.Label.{is_label, is_label_byte}
-pub use Rattle.bbm_events.specs.Lines.{Fields, event_fields, found, next_field}
+pub use Rattle.bbm_events.specs.Codec.{Fields, found, next_field}
+pub use Rattle.bbm_events.specs.Lines.{event_fields}
 pub use Rattle.bbm_events.specs.Spelling.{fields, joined}
 pub use Rattle.bbm_events.specs.Words.{dsb_word, op_word, reg_word}
 pub use Rattle.bbm_events.specs.declared.event.Event.{Event}

@@ -7,7 +7,7 @@ use Rattle.bbm_regimes.specs.declared.regime.World.TheVariants.{Hyp, Kernel}
 use Rattle.bbm_events.specs.Lines.{header_fields, label_fields}
 use Rattle.bbm_log_grammar.specs.Ahead.{label_part}
 use Rattle.bbm_log_grammar.specs.Left.{spaced}
-use Rattle.bbm_events.proofs.Written.{event_fields_some}
+use Rattle.bbm_events.proofs.ItemLines.{event_fields_some}
 
 joined_more : (piece : List ℕ) (pieces more : Fields) → joined (piece ∷ pieces) ++ spaced more ≡ joined ((piece ∷ pieces) ++ more)
 joined_more piece [] [] = append-nil piece

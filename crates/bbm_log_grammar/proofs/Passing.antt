@@ -2,7 +2,7 @@
 use Rattle.bbm_log_grammar.proofs.Common.{◌≡◌, ℕ, List, [], ◌∷◌, Bool, Option, Some, None, Result, Ok, Err, ap}
 use Rattle.bbm_log_grammar.proofs.Common.{Malformed, Fields, next_field, found}
 use Rattle.bbm_events.specs.Spelling.{decimal_value, hex_value}
-use Rattle.bbm_events.specs.Lines.{passing}
+use Rattle.bbm_events.specs.Codec.{passing}
 
 passed : {A : Type 0} (absent unreadable : Malformed) (read : List ℕ → Option A) (test : A → Bool) (fields : Fields) {n : A} {rest : Fields}
     → next_field absent unreadable read fields ≡ Ok (n, rest)

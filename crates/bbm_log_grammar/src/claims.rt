@@ -19,7 +19,7 @@ use bbm_regimes::Tag;
 
 /// The word of a tag.
 fn tag_word_field<'a>(fields: Fields<'a>) -> Result<(TagWord, Fields<'a>), Malformed>
-    ensures { result ≡ certificate.tag_word_field fields.entry }
+    ensures { result ≡ certificate.tag_word_field.read fields.entry }
 {
     fields.word_or(&TAG_WORDS, Malformed::MissingField, Malformed::UnknownWord)
 }
@@ -27,7 +27,7 @@ fn tag_word_field<'a>(fields: Fields<'a>) -> Result<(TagWord, Fields<'a>), Malfo
 /// The number of a tag with this word.
 #[tactic(auto, using(crate::proofs::Passing::passing_fields))]
 fn tag_number_field<'a>(word: TagWord, fields: Fields<'a>) -> Result<(u16, Fields<'a>), Malformed>
-    ensures { result ≡ certificate.tag_number_field word fields.entry }
+    ensures { result ≡ (certificate.tag_number_field word).read fields.entry }
 {
     match fields.decimal_or(Malformed::MissingField, Malformed::BadNumber) {
         Ok((number, rest)) => found(tag_number_of(word, number), Malformed::BadNumber, rest),
@@ -49,7 +49,7 @@ fn tag_with(word: TagWord, number: u16) -> Tag
 
 /// A tag, by its word and its number.
 fn tag_fields<'a>(fields: Fields<'a>) -> Result<(Tag, Fields<'a>), Malformed>
-    ensures { result ≡ certificate.tag_fields fields.entry }
+    ensures { result ≡ certificate.tag_fields.read fields.entry }
 {
     let (word, fields) = tag_word_field(fields)?;
     let (number, fields) = tag_number_field(word, fields)?;
@@ -58,14 +58,14 @@ fn tag_fields<'a>(fields: Fields<'a>) -> Result<(Tag, Fields<'a>), Malformed>
 
 /// A position, which is spelled as a count is.
 fn position_field<'a>(fields: Fields<'a>) -> Result<(u32, Fields<'a>), Malformed>
-    ensures { result ≡ certificate.position_field fields.entry }
+    ensures { result ≡ certificate.position_field.read fields.entry }
 {
     count_field(fields)
 }
 
 /// The positions of a TLBI and of the DSB that answers it.
 fn flush_fields<'a>(fields: Fields<'a>) -> Result<((u32, u32), Fields<'a>), Malformed>
-    ensures { result ≡ certificate.flush_fields fields.entry }
+    ensures { result ≡ certificate.flush_fields.read fields.entry }
 {
     let (t, fields) = position_field(fields)?;
     let (d, fields) = position_field(fields)?;
@@ -126,7 +126,7 @@ fn claim_after(header: &Header, word: ClaimWord, fields: Fields) -> Result<Claim
 
 /// The word of a claim.
 fn claim_word_field<'a>(fields: Fields<'a>) -> Result<(ClaimWord, Fields<'a>), Malformed>
-    ensures { result ≡ certificate.claim_word_field fields.entry }
+    ensures { result ≡ certificate.claim_word_field.read fields.entry }
 {
     fields.word_or(
         &CLAIM_WORDS,
@@ -153,7 +153,7 @@ fn end_line(header: &Header, fields: Fields) -> Result<ClaimItem, Malformed>
 fn certificate_word_field<'a>(
     fields: Fields<'a>,
 ) -> Result<(CertificateWord, Fields<'a>), Malformed>
-    ensures { result ≡ certificate.certificate_word_field fields.entry }
+    ensures { result ≡ certificate.certificate_word_field.read fields.entry }
 {
     fields.word_or(
         &CERTIFICATE_WORDS,

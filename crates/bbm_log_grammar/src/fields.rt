@@ -3,6 +3,7 @@
 ghost use Rattle.std.specs.Prelude.{◌≡◌, ℕ, [], ◌∷◌, ◌==◌, MatchOption, MatchResult, Ok, Err};
 ghost use Rattle.std.specs.List.{position};
 ghost use Rattle.bbm_events.specs.Spelling.{decimal_value, fields, hex_value};
+ghost use Rattle.bbm_events.specs.Codec as codec;
 ghost use Rattle.bbm_events.specs.Lines as lines;
 ghost use Rattle.bbm_events.specs.Words.{with_word};
 
@@ -50,7 +51,7 @@ impl<'a> Fields<'a> {
         absent: Malformed,
         unreadable: Malformed,
     ) -> Result<(u64, Fields<'a>), Malformed>
-        ensures { result ≡ lines.next_field absent unreadable decimal_value self.entry }
+        ensures { result ≡ codec.next_field absent unreadable decimal_value self.entry }
     {
         match self.next() {
             Some((text, rest)) => found(read_decimal(text), unreadable, rest),
@@ -65,7 +66,7 @@ impl<'a> Fields<'a> {
         absent: Malformed,
         unreadable: Malformed,
     ) -> Result<(u64, Fields<'a>), Malformed>
-        ensures { result ≡ lines.next_field absent unreadable hex_value self.entry }
+        ensures { result ≡ codec.next_field absent unreadable hex_value self.entry }
     {
         match self.next() {
             Some((text, rest)) => found(read_hex(text), unreadable, rest),
@@ -81,7 +82,7 @@ impl<'a> Fields<'a> {
         absent: Malformed,
         unknown: Malformed,
     ) -> Result<(T, Fields<'a>), Malformed>
-        ensures { result ≡ lines.next_field absent unknown (with_word T.word_of values.now) self.entry }
+        ensures { result ≡ codec.next_field absent unknown (with_word T.word_of values.now) self.entry }
     {
         match self.next() {
             Some((text, rest)) => found(named(values, text), unknown, rest),
@@ -97,8 +98,8 @@ impl<'a> Fields<'a> {
         absent: Malformed,
         other: Malformed,
     ) -> Result<Fields<'a>, Malformed>
-        ensures { MatchResult result (λ rest. lines.next_field absent other (lines.exactly word.now) self.entry
-            ≡ Ok (word.now, rest)) (λ cause. lines.next_field absent other (lines.exactly word.now) self.entry
+        ensures { MatchResult result (λ rest. codec.next_field absent other (lines.exactly word.now) self.entry
+            ≡ Ok (word.now, rest)) (λ cause. codec.next_field absent other (lines.exactly word.now) self.entry
             ≡ Err cause) }
     {
         match self.next() {
@@ -139,13 +140,6 @@ impl<'a> Fields<'a> {
             None => Some((line, Fields { rest: None })),
         }
     }
-
-    /// The next field, and those after it; the cause where no field is left.
-    pub(crate) fn next_or(self, absent: Malformed) -> Result<(&'a [u8], Fields<'a>), Malformed>
-        ensures { MatchResult result (λ x. self.entry ≡ x.0.now ∷ x.1) (λ cause. (self.entry ≡ []) × (cause ≡ absent)) }
-    {
-        self.next().ok_or(absent)
-    }
 }
 
 /// The value with the fields after it; the cause where there is none.
@@ -154,7 +148,7 @@ pub(crate) fn found<'a, T: Copy>(
     cause: Malformed,
     rest: Fields<'a>,
 ) -> Result<(T, Fields<'a>), Malformed>
-    ensures { result ≡ lines.found cause value rest.entry }
+    ensures { result ≡ codec.found cause value rest.entry }
 {
     match value {
         Some(value) => Ok((value, rest)),

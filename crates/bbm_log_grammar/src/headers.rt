@@ -2,39 +2,38 @@
 
 ghost use Rattle.std.specs.Prelude.{◌≡◌, ◌&&◌, ◌||◌, not, true, Some, None, IfOk, IfErr, IfSome};
 ghost use Rattle.bbm_regimes.specs.declared.regime.World.TheVariants.{Hyp, Kernel};
-ghost use Rattle.bbm_regimes.specs.declared.regime.Kind.TheVariants.{S2, Ttbr0};
-ghost use Rattle.bbm_regimes.specs.World.{kind_in_world, world_ok};
+ghost use Rattle.bbm_regimes.specs.World.{world_ok};
 ghost use Rattle.bbm_regimes.specs.declared.regime.World.{World as TheWorld};
 ghost use Rattle.bbm_events.specs.Causes.{IsHeaderCause};
 ghost use Rattle.bbm_events.specs.Heading as heading;
-ghost use Rattle.bbm_events.specs.Spelling.{decimal_value};
-ghost use Rattle.bbm_events.specs.Words.{with_word, asid_from_word, asid_froms};
+ghost use Rattle.bbm_events.specs.declared.header_words.WorldWord.TheVariants as word;
 ghost use Rattle.bbm_events.specs.Lines.{header_of};
+ghost use Rattle.bbm_events.specs.Codec as codec;
 ghost use Rattle.bbm_events.specs.Lines as lines;
 
 use crate::fields::{Fields, found};
 use crate::values::version_of;
-use crate::words::{ASID_FROMS, CNPS};
-use bbm_events::{Header, HeaderWords, Malformed, law_header_causes};
+use crate::words::{ASID_FROMS, CNPS, WORLDS};
+use bbm_events::{Header, HeaderWords, Malformed, NO_WORDS, WorldWord, law_header_causes};
 use bbm_regimes::{AsidFrom, HypWorld, KernelWorld, Level, World};
 
 /// A number of the header.
 fn number_field<'a>(fields: Fields<'a>) -> Result<(u64, Fields<'a>), Malformed>
-    ensures { result ≡ lines.header_field decimal_value fields.entry }
+    ensures { result ≡ lines.number_field.read fields.entry }
 {
     fields.decimal_or(Malformed::BadHeader, Malformed::BadHeader)
 }
 
 /// The register for the current ASID.
 fn asid_from_field<'a>(fields: Fields<'a>) -> Result<(AsidFrom, Fields<'a>), Malformed>
-    ensures { result ≡ lines.header_field (with_word asid_from_word asid_froms) fields.entry }
+    ensures { result ≡ lines.asid_from_field.read fields.entry }
 {
     fields.word_or(&ASID_FROMS, Malformed::BadHeader, Malformed::BadHeader)
 }
 
 /// The version of the log.
 fn version_field<'a>(fields: Fields<'a>) -> Result<(u8, Fields<'a>), Malformed>
-    ensures version { result ≡ lines.version_field fields.entry }
+    ensures version { result ≡ lines.version_field.read fields.entry }
     ensures in_range { IfOk result (λ x. heading.is_version x.0 ≡ true) }
 {
     match fields.next() {
@@ -55,28 +54,16 @@ fn cnp_field<'a>(version: u8, fields: Fields<'a>) -> Result<(bool, Fields<'a>), 
     }
 }
 
-/// Whether the next field is a word that versions from 5 on have, and the fields after it; where it isn't, all that are
-/// left.
-fn later_word<'a>(version: u8, word: &[u8], fields: Fields<'a>) -> (bool, Fields<'a>)
-    ensures word { result ≡ lines.later_word version word.now fields.entry }
-    ensures later { (heading.has_words version || not result.0) ≡ true }
-{
-    if version >= 5 {
-        fields.word(word)
-    } else {
-        (false, fields)
-    }
-}
-
-/// What else the words say, and the fields after them.
+/// What else the words say, and the fields after them; before version 5 there is none.
 fn header_words<'a>(version: u8, fields: Fields<'a>) -> (HeaderWords, Fields<'a>)
-    ensures words { result ≡ lines.header_words version fields.entry }
-    ensures later { (heading.has_words version
-        || not (result.0.unflushed || (result.0.inorder || result.0.isolated))) ≡ true }
+    ensures { result ≡ lines.header_words version fields.entry }
 {
-    let (unflushed, fields) = later_word(version, b"unflushed", fields);
-    let (inorder, fields) = later_word(version, b"inorder", fields);
-    let (isolated, fields) = later_word(version, b"isolated", fields);
+    if version < 5 {
+        return (NO_WORDS, fields);
+    }
+    let (unflushed, fields) = fields.word(b"unflushed");
+    let (inorder, fields) = fields.word(b"inorder");
+    let (isolated, fields) = fields.word(b"isolated");
     (
         HeaderWords {
             unflushed,
@@ -87,15 +74,24 @@ fn header_words<'a>(version: u8, fields: Fields<'a>) -> (HeaderWords, Fields<'a>
     )
 }
 
-/// Whether a log of this world can say these words.
-fn are_words(world: &World, words: HeaderWords) -> bool
-    ensures { result
-        ≡ ((kind_in_world world.now Ttbr0 || not words.inorder) && (kind_in_world world.now S2 || not words.isolated)) }
+/// Whether a word can stand or not, where the log's world has it or doesn't.
+fn may_stand(version: u8, of_world: bool, stands: bool) -> bool
+    ensures { result ≡ (not stands || (heading.has_words version && of_world)) }
 {
-    match world {
-        World::Hyp(_) => !words.inorder,
-        World::Kernel(_) => !words.isolated,
-    }
+    !stands || (version >= 5 && of_world)
+}
+
+/// Whether a log of this version and world can say these words.
+fn are_words(version: u8, world: &World, words: HeaderWords) -> bool
+    ensures { result ≡ heading.words_ok version world.now words }
+{
+    let hyp = match world {
+        World::Hyp(_) => true,
+        World::Kernel(_) => false,
+    };
+    may_stand(version, true, words.unflushed)
+        && may_stand(version, !hyp, words.inorder)
+        && may_stand(version, hyp, words.isolated)
 }
 
 /// Whether a log of this version can have so many PEs.
@@ -110,7 +106,7 @@ fn are_pes(version: u8, pes: u64) -> bool
 fn hyp_world(el2_start: u64, s2_start: u64, s2_pages: u64) -> Option<World>
     ensures fits { IfSome result (λ world. world_ok world ≡ true) }
     ensures world { result
-        ≡ lines.passing world_ok
+        ≡ codec.passing world_ok
         (Some (Hyp (record { el2_start = el2_start; s2_start = s2_start; s2_pages = s2_pages }))) }
 {
     let pages_fit = match s2_pages {
@@ -133,7 +129,7 @@ fn hyp_world(el2_start: u64, s2_start: u64, s2_pages: u64) -> Option<World>
 fn kernel_world(start0: u64, start1: u64, asid_from: AsidFrom) -> Option<World>
     ensures fits { IfSome result (λ world. world_ok world ≡ true) }
     ensures world { result
-        ≡ lines.passing world_ok (Some (Kernel (record { start0 = start0; start1 = start1; asid_from = asid_from }))) }
+        ≡ codec.passing world_ok (Some (Kernel (record { start0 = start0; start1 = start1; asid_from = asid_from }))) }
 {
     if start0 <= 2 && start1 <= 2 {
         Some(World::Kernel(KernelWorld {
@@ -152,49 +148,42 @@ fn kernel_world(start0: u64, start1: u64, asid_from: AsidFrom) -> Option<World>
 fn header_in(
     version: u8,
     pes: u64,
-    cnp: bool,
     world: Option<World>,
     fields: Fields,
 ) -> Result<Header, Malformed>
     requires version { heading.is_version version ≡ true }
-    requires shares { (heading.may_share version || not cnp) ≡ true }
     requires world { IfSome world (λ it. world_ok it ≡ true) }
-    ensures { (it : TheWorld) → world ≡ lines.passing world_ok (Some it)
-        → let words = lines.header_words version fields.entry in result ≡ lines.checked (record {
-          version = version;
-          pes = pes;
-          cnp = cnp;
-          words = words.0;
-          world = it;
-        }) words.1 }
+    ensures { (it : TheWorld) → world ≡ codec.passing world_ok (Some it)
+        → result ≡ lines.heading_end version pes it fields.entry }
 {
+    let (cnp, fields) = cnp_field(version, fields)?;
     let (words, fields) = header_words(version, fields);
     let ends = fields.next().is_none();
     match world {
-        Some(world) if ends && are_pes(version, pes) && are_words(&world, words) => Ok(Header {
-            version,
-            pes: pes as u8,
-            cnp,
-            words,
-            world,
-        }),
+        Some(world) if ends && are_pes(version, pes) && are_words(version, &world, words) => Ok(
+            Header {
+                version,
+                pes: pes as u8,
+                cnp,
+                words,
+                world,
+            },
+        ),
         _ => Err(Malformed::BadHeader),
     }
 }
 
 fn hyp_fields(version: u8, fields: Fields) -> Result<Header, Malformed>
     requires { heading.is_version version ≡ true }
-    ensures { result ≡ lines.hyp_fields version fields.entry }
+    ensures { result ≡ lines.world_after version word.Hyp fields.entry }
 {
     let (pes, fields) = number_field(fields)?;
     let (el2_start, fields) = number_field(fields)?;
     let (s2_start, fields) = number_field(fields)?;
     let (s2_pages, fields) = number_field(fields)?;
-    let (cnp, fields) = cnp_field(version, fields)?;
     header_in(
         version,
         pes,
-        cnp,
         hyp_world(el2_start, s2_start, s2_pages),
         fields,
     )
@@ -202,33 +191,29 @@ fn hyp_fields(version: u8, fields: Fields) -> Result<Header, Malformed>
 
 fn kernel_fields(version: u8, fields: Fields) -> Result<Header, Malformed>
     requires { heading.is_version version ≡ true }
-    ensures { result ≡ lines.kernel_fields version fields.entry }
+    ensures { result ≡ lines.world_after version word.Kernel fields.entry }
 {
     let (pes, fields) = number_field(fields)?;
     let (start0, fields) = number_field(fields)?;
     let (start1, fields) = number_field(fields)?;
     let (asid_from, fields) = asid_from_field(fields)?;
-    let (cnp, fields) = cnp_field(version, fields)?;
     header_in(
         version,
         pes,
-        cnp,
         kernel_world(start0, start1, asid_from),
         fields,
     )
 }
 
-/// The fields after the word of the world.
-fn world_fields(version: u8, word: &[u8], fields: Fields) -> Result<Header, Malformed>
+/// The fields after the version: the word of the world, and what follows it.
+fn version_after(version: u8, fields: Fields) -> Result<Header, Malformed>
     requires { heading.is_version version ≡ true }
-    ensures { result ≡ lines.world_fields version word.now fields.entry }
+    ensures { result ≡ lines.version_after version fields.entry }
 {
-    if word == b"hyp".as_slice() {
-        hyp_fields(version, fields)
-    } else if word == b"kernel".as_slice() {
-        kernel_fields(version, fields)
-    } else {
-        Err(Malformed::BadHeader)
+    let (word, fields) = fields.word_or(&WORLDS, Malformed::BadHeader, Malformed::BadHeader)?;
+    match word {
+        WorldWord::Hyp => hyp_fields(version, fields),
+        WorldWord::Kernel => kernel_fields(version, fields),
     }
 }
 
@@ -239,8 +224,7 @@ fn header_on(line: &[u8]) -> Result<Header, Malformed>
 {
     let fields = Fields::of(line).behind(b"bbmlog", Malformed::NoMagic, Malformed::NoMagic)?;
     let (version, fields) = version_field(fields)?;
-    let (world, fields) = fields.next_or(Malformed::BadHeader)?;
-    world_fields(version, world, fields)
+    version_after(version, fields)
 }
 
 /// The header that line 1 says; the bytes are the line's without its newline. `NoMagic` where the

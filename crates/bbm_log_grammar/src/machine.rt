@@ -4,7 +4,7 @@ ghost use Rattle.std.specs.Prelude.{◌≡◌, true, IfOk, IfErr};
 ghost use Rattle.bbm_events.specs.Causes.{IsLineCause};
 ghost use Rattle.bbm_events.specs.Machine.{machine_of, machine_fits};
 ghost use Rattle.bbm_events.specs.Machine as machine;
-ghost use Rattle.bbm_events.specs.Lines as lines;
+ghost use Rattle.bbm_events.specs.Codec as codec;
 ghost use Rattle.bbm_events.specs.Words.{with_word};
 ghost use Rattle.bbm_events.specs.declared.machine.MachineWord.TheVariants as second;
 
@@ -20,7 +20,7 @@ use bbm_regimes::Kind;
 /// The VMID or ASID of an entry of the kind.
 #[tactic(auto, using(crate::proofs::Passing::passing_fields))]
 fn tag_field<'a>(kind: Kind, fields: Fields<'a>) -> Result<(u16, Fields<'a>), Malformed>
-    ensures { result ≡ machine.tag_field kind fields.entry }
+    ensures { result ≡ (machine.tag_field kind).read fields.entry }
 {
     match fields.decimal_or(Malformed::MissingField, Malformed::BadNumber) {
         Ok((number, rest)) => found(tag_of(kind, number), Malformed::BadNumber, rest),
@@ -30,7 +30,7 @@ fn tag_field<'a>(kind: Kind, fields: Fields<'a>) -> Result<(u16, Fields<'a>), Ma
 
 /// The number of an entry, which is spelled as a count is.
 fn entry_field<'a>(fields: Fields<'a>) -> Result<(u32, Fields<'a>), Malformed>
-    ensures { result ≡ machine.entry_field fields.entry }
+    ensures { result ≡ machine.entry_field.read fields.entry }
 {
     count_field(fields)
 }
@@ -126,7 +126,7 @@ fn has_machine_word(header: &Header, word: MachineWord) -> bool
 /// The word of a step that the field is, where the header's version has it.
 fn machine_word_of(header: &Header, field: &[u8]) -> Option<MachineWord>
     ensures { result
-        ≡ lines.passing (machine.has_machine_word header.now.version)
+        ≡ codec.passing (machine.has_machine_word header.now.version)
         (with_word machine.machine_word machine.machine_words field.now) }
 {
     let word = named(&MACHINE_WORDS, field)?;
@@ -142,7 +142,7 @@ fn machine_word_field<'a>(
     header: &Header,
     fields: Fields<'a>,
 ) -> Result<(MachineWord, Fields<'a>), Malformed>
-    ensures { result ≡ machine.machine_word_field header.now.version fields.entry }
+    ensures { result ≡ (machine.machine_word_field header.now.version).read fields.entry }
 {
     match fields.next() {
         Some((text, rest)) => found(machine_word_of(header, text), Malformed::UnknownWord, rest),

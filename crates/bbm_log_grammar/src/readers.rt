@@ -2,6 +2,7 @@
 
 ghost use Rattle.std.specs.Prelude.{◌≡◌, ◌∷◌};
 ghost use Rattle.bbm_events.specs.Heading.{has_op};
+ghost use Rattle.bbm_events.specs.Codec as codec;
 ghost use Rattle.bbm_events.specs.Lines as lines;
 ghost use Rattle.bbm_events.specs.Words.{op_word, ops, with_word};
 ghost use Rattle.bbm_log_grammar.specs.InLine.{item_in, read_in};
@@ -21,7 +22,7 @@ pub(crate) fn pe_field<'a>(
     header: &Header,
     fields: Fields<'a>,
 ) -> Result<(Pe, Fields<'a>), Malformed>
-    ensures { result ≡ lines.pe_field header.now fields.entry }
+    ensures { result ≡ (lines.pe_field header.now).read fields.entry }
 {
     match fields.decimal_or(Malformed::MissingField, Malformed::BadPe) {
         Ok((number, rest)) => found(pe_of(header, number), Malformed::BadPe, rest),
@@ -32,7 +33,7 @@ pub(crate) fn pe_field<'a>(
 /// A page.
 #[tactic(auto, using(crate::proofs::Passing::passing_fields))]
 pub(crate) fn page_field<'a>(fields: Fields<'a>) -> Result<(Page, Fields<'a>), Malformed>
-    ensures { result ≡ lines.page_field fields.entry }
+    ensures { result ≡ lines.page_field.read fields.entry }
 {
     match fields.hex_or(Malformed::MissingField, Malformed::BadAddress) {
         Ok((number, rest)) => found(Page::new(number), Malformed::BadAddress, rest),
@@ -43,7 +44,7 @@ pub(crate) fn page_field<'a>(fields: Fields<'a>) -> Result<(Page, Fields<'a>), M
 /// A place.
 #[tactic(auto, using(crate::proofs::Passing::passing_fields))]
 pub(crate) fn place_field<'a>(fields: Fields<'a>) -> Result<(Place, Fields<'a>), Malformed>
-    ensures { result ≡ lines.place_field fields.entry }
+    ensures { result ≡ lines.place_field.read fields.entry }
 {
     match fields.hex_or(Malformed::MissingField, Malformed::BadAddress) {
         Ok((number, rest)) => found(Place::new(number), Malformed::BadAddress, rest),
@@ -58,7 +59,7 @@ pub(crate) fn root_page_field<'a>(
     kind: Kind,
     fields: Fields<'a>,
 ) -> Result<(Page, Fields<'a>), Malformed>
-    ensures { result ≡ lines.root_page_field header.now kind fields.entry }
+    ensures { result ≡ (lines.root_page_field header.now kind).read fields.entry }
 {
     match fields.hex_or(Malformed::MissingField, Malformed::BadAddress) {
         Ok((number, rest)) => found(
@@ -72,7 +73,7 @@ pub(crate) fn root_page_field<'a>(
 
 /// A value.
 pub(crate) fn value_field<'a>(fields: Fields<'a>) -> Result<(u64, Fields<'a>), Malformed>
-    ensures { result ≡ lines.value_field fields.entry }
+    ensures { result ≡ lines.value_field.read fields.entry }
 {
     fields.hex_or(Malformed::MissingField, Malformed::BadNumber)
 }
@@ -80,7 +81,7 @@ pub(crate) fn value_field<'a>(fields: Fields<'a>) -> Result<(u64, Fields<'a>), M
 /// A lock.
 #[tactic(auto, using(crate::proofs::Passing::passing_fields))]
 pub(crate) fn lock_field<'a>(fields: Fields<'a>) -> Result<(u16, Fields<'a>), Malformed>
-    ensures { result ≡ lines.lock_field fields.entry }
+    ensures { result ≡ lines.lock_field.read fields.entry }
 {
     match fields.decimal_or(Malformed::MissingField, Malformed::BadNumber) {
         Ok((number, rest)) => found(lock_of(number), Malformed::BadNumber, rest),
@@ -92,7 +93,7 @@ pub(crate) fn lock_field<'a>(fields: Fields<'a>) -> Result<(u16, Fields<'a>), Ma
 pub(crate) fn root_lock_field<'a>(
     fields: Fields<'a>,
 ) -> Result<(Option<u16>, Fields<'a>), Malformed>
-    ensures { result ≡ lines.root_lock_field fields.entry }
+    ensures { result ≡ lines.root_lock_field.read fields.entry }
 {
     match fields.next() {
         Some((text, rest)) => found(root_lock_of(text), Malformed::BadNumber, rest),
@@ -103,7 +104,7 @@ pub(crate) fn root_lock_field<'a>(
 /// A number of event lines.
 #[tactic(auto, using(crate::proofs::Passing::passing_fields))]
 pub(crate) fn count_field<'a>(fields: Fields<'a>) -> Result<(u32, Fields<'a>), Malformed>
-    ensures { result ≡ lines.count_field fields.entry }
+    ensures { result ≡ lines.count_field.read fields.entry }
 {
     match fields.decimal_or(Malformed::MissingField, Malformed::BadNumber) {
         Ok((number, rest)) => found(count_of(number), Malformed::BadNumber, rest),
@@ -113,21 +114,21 @@ pub(crate) fn count_field<'a>(fields: Fields<'a>) -> Result<(u32, Fields<'a>), M
 
 /// A kind.
 pub(crate) fn kind_field<'a>(fields: Fields<'a>) -> Result<(Kind, Fields<'a>), Malformed>
-    ensures { result ≡ lines.kind_field fields.entry }
+    ensures { result ≡ lines.kind_field.read fields.entry }
 {
     fields.word_or(&KINDS, Malformed::MissingField, Malformed::UnknownWord)
 }
 
 /// The option of a barrier.
 pub(crate) fn dsb_field<'a>(fields: Fields<'a>) -> Result<(Dsb, Fields<'a>), Malformed>
-    ensures { result ≡ lines.dsb_field fields.entry }
+    ensures { result ≡ lines.dsb_field.read fields.entry }
 {
     fields.word_or(&DSBS, Malformed::MissingField, Malformed::UnknownWord)
 }
 
 /// The operation of a TLBI that a log with this header has.
 fn op_in(header: &Header, text: &[u8]) -> Option<TlbiOp>
-    ensures { result ≡ lines.passing (has_op header.now.version) (with_word op_word ops text.now) }
+    ensures { result ≡ codec.passing (has_op header.now.version) (with_word op_word ops text.now) }
 {
     let op = named(&OPS, text)?;
     if has_op(header, op) { Some(op) } else { None }
@@ -138,7 +139,7 @@ pub(crate) fn op_field<'a>(
     header: &Header,
     fields: Fields<'a>,
 ) -> Result<(TlbiOp, Fields<'a>), Malformed>
-    ensures { result ≡ lines.op_field header.now.version fields.entry }
+    ensures { result ≡ (lines.op_field header.now.version).read fields.entry }
 {
     match fields.next() {
         Some((text, rest)) => found(op_in(header, text), Malformed::UnknownWord, rest),
@@ -148,7 +149,7 @@ pub(crate) fn op_field<'a>(
 
 /// A register.
 pub(crate) fn reg_field<'a>(fields: Fields<'a>) -> Result<(Reg, Fields<'a>), Malformed>
-    ensures { result ≡ lines.reg_field fields.entry }
+    ensures { result ≡ lines.reg_field.read fields.entry }
 {
     fields.word_or(&REGS, Malformed::MissingField, Malformed::UnknownWord)
 }
@@ -158,7 +159,7 @@ pub(crate) fn operand_field<'a>(
     op: TlbiOp,
     fields: Fields<'a>,
 ) -> Result<(u64, Fields<'a>), Malformed>
-    ensures { result ≡ lines.operand_field op fields.entry }
+    ensures { result ≡ (lines.operand_field op).read fields.entry }
 {
     if op.has_operand() {
         value_field(fields)
@@ -199,7 +200,7 @@ pub(crate) fn event_item<'a>(
 
 /// The item, where no field is left.
 pub(crate) fn whole_item<'a>(item: LineItem<'a>, fields: Fields) -> Result<LineItem<'a>, Malformed>
-    ensures { read_in result ≡ lines.whole (item_in item.entry) fields.entry }
+    ensures { read_in result ≡ codec.whole (item_in item.entry) fields.entry }
 {
     if fields.next().is_some() {
         return Err(Malformed::ExtraField);
@@ -209,7 +210,7 @@ pub(crate) fn whole_item<'a>(item: LineItem<'a>, fields: Fields) -> Result<LineI
 
 /// The value, where no field is left.
 pub(crate) fn whole<T: Copy>(value: T, fields: Fields) -> Result<T, Malformed>
-    ensures { result ≡ lines.whole value fields.entry }
+    ensures { result ≡ codec.whole value fields.entry }
 {
     match fields.next() {
         None => Ok(value),

@@ -4,6 +4,7 @@ ghost use Rattle.std.specs.Prelude.{◌≡◌, true, Some, None};
 ghost use Rattle.bbm_events.specs.Spelling.{decimal_value, hex_value};
 ghost use Rattle.bbm_events.specs.Heading.{is_version};
 ghost use Rattle.bbm_events.specs.Fits as fits;
+ghost use Rattle.bbm_events.specs.Codec as codec;
 ghost use Rattle.bbm_events.specs.Lines as lines;
 ghost use Rattle.bbm_events.specs.Certificate as certificate;
 ghost use Rattle.bbm_events.specs.Machine as machine;
@@ -21,7 +22,7 @@ const TAGS: u64 = 1 << 16;
 
 /// The version of a log.
 pub(crate) fn version_of(field: &[u8]) -> Option<u8>
-    ensures { result ≡ lines.passing is_version (decimal_value field.now) }
+    ensures { result ≡ codec.passing is_version (decimal_value field.now) }
 {
     let number = read_decimal(field)?;
     if 1 <= number && number <= 5 {
@@ -34,7 +35,7 @@ pub(crate) fn version_of(field: &[u8]) -> Option<u8>
 /// The PE of the log with this number.
 #[inline(always)]
 pub(crate) fn pe_of(header: &Header, number: u64) -> Option<Pe>
-    ensures { result ≡ lines.passing (fits.is_pe header.now) (Some number) }
+    ensures { result ≡ codec.passing (fits.is_pe header.now) (Some number) }
 {
     if number < header.pes as u64 {
         Pe::new(number as u8)
@@ -46,14 +47,14 @@ pub(crate) fn pe_of(header: &Header, number: u64) -> Option<Pe>
 /// The page whose address the field spells in hex, a multiple of 4096 below 2^48. None where it spells none. Source:
 /// project's own choice of the spelling.
 pub fn page_of(field: &[u8]) -> Option<Page>
-    ensures { result ≡ lines.passing fits.is_page (hex_value field.now) }
+    ensures { result ≡ codec.passing fits.is_page (hex_value field.now) }
 {
     Page::new(read_hex(field)?)
 }
 
 /// The first page of a root of this kind, with this address.
 pub(crate) fn root_page_of(header: &Header, kind: Kind, address: u64) -> Option<Page>
-    ensures { result ≡ lines.passing (fits.is_root_page header.now.world kind) (Some address) }
+    ensures { result ≡ codec.passing (fits.is_root_page header.now.world kind) (Some address) }
 {
     let page = Page::new(address)?;
     if page.get() % (PAGE_BYTES * header.page_count(kind) as u64) == 0 {
@@ -65,7 +66,7 @@ pub(crate) fn root_page_of(header: &Header, kind: Kind, address: u64) -> Option<
 
 /// The number of a lock.
 pub(crate) fn lock_of(number: u64) -> Option<u16>
-    ensures { result ≡ lines.passing fits.is_lock (Some number) }
+    ensures { result ≡ codec.passing fits.is_lock (Some number) }
 {
     if number < LOCKS {
         Some(number as u16)
@@ -87,7 +88,7 @@ pub(crate) fn root_lock_of(field: &[u8]) -> Option<Option<u16>>
 
 /// A number of event lines.
 pub(crate) fn count_of(number: u64) -> Option<u32>
-    ensures { result ≡ lines.passing fits.is_count (Some number) }
+    ensures { result ≡ codec.passing fits.is_count (Some number) }
 {
     u32::try_from(number).ok()
 }
@@ -106,7 +107,7 @@ fn is_tag(kind: Kind, number: u64) -> bool
 
 /// The VMID or ASID of an entry of the kind.
 pub(crate) fn tag_of(kind: Kind, number: u64) -> Option<u16>
-    ensures { result ≡ lines.passing (machine.is_tag kind) (Some number) }
+    ensures { result ≡ codec.passing (machine.is_tag kind) (Some number) }
 {
     if is_tag(kind, number) {
         Some(number as u16)
@@ -129,7 +130,7 @@ fn has_number(word: TagWord, number: u64) -> bool
 
 /// The number of a tag with this word, 0 where it has none.
 pub(crate) fn tag_number_of(word: TagWord, number: u64) -> Option<u16>
-    ensures { result ≡ lines.passing (certificate.has_number word) (Some number) }
+    ensures { result ≡ codec.passing (certificate.has_number word) (Some number) }
 {
     if has_number(word, number) {
         Some(number as u16)

@@ -6,7 +6,7 @@ ghost use Rattle.bbm_events.specs.Machine as machine;
 ghost use Rattle.bbm_events.specs.Words as words;
 
 use bbm_barriers::{Domain, Dsb, Types};
-use bbm_events::{CertificateWord, ClaimWord, Keyword, MachineWord, TagWord};
+use bbm_events::{CertificateWord, ClaimWord, Keyword, MachineWord, TagWord, WorldWord};
 use bbm_regimes::{AsidFrom, Kind, Reg};
 use bbm_tlbi_scope::TlbiOp;
 
@@ -138,6 +138,20 @@ impl Worded for TagWord {
             TagWord::Vmid => b"vmid",
             TagWord::Asid => b"asid",
             TagWord::Ttbr1 => b"ttbr1",
+        }
+    }
+}
+
+/// The worlds of headers.
+pub(crate) const WORLDS: [WorldWord; 2] = [WorldWord::Hyp, WorldWord::Kernel];
+
+impl Worded for WorldWord {
+    ghost word_of = { words.world_word };
+
+    fn word(self) -> &'static [u8] {
+        match self {
+            WorldWord::Hyp => b"hyp",
+            WorldWord::Kernel => b"kernel",
         }
     }
 }

@@ -1,6 +1,6 @@
 -- The pages of a root: they lie below 2 ^ 48, and where none is found that isn't fresh, each is fresh.
 use Rattle.bbm_replay.proofs.Common.{input_pages, S2, Heading, third_true}
-use Rattle.bbm_events.proofs.Written.{ranges}
+use Rattle.bbm_events.proofs.Ranges.{ranges}
 use Rattle.bbm_rules.proofs.Common.{◌≡◌, ℕ, zero, suc, ◌+◌, ◌*◌, ◌%◌, ◌^◌, ◌<◌, ◌≤◌, Bool, true, false, cond, not}
 use Rattle.bbm_rules.proofs.Common.{◌||◌, ◌==◌, nat_le, nat_lt, List, [], ◌∷◌, length, Contains, slice_index_or, None}
 use Rattle.bbm_rules.proofs.Common.{filter, refl, sym, subst, arith, not-suc-le-zero, le_of_suc-le-suc, and_parts}

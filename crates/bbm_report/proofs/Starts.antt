@@ -8,7 +8,7 @@ use Rattle.bbm_regimes.specs.declared.regime.World.TheVariants.{Hyp, Kernel}
 use Rattle.bbm_regimes.specs.World.{start_of}
 use Rattle.bbm_walk_s2.specs.Joined.{can_join}
 use Rattle.bbm_events.specs.Heading.{Heading}
-use Rattle.bbm_events.proofs.Written.{ranges}
+use Rattle.bbm_events.proofs.Ranges.{ranges}
 
 either : (zero one two four eight sixteen : Bool) → cond zero one (one || two || four || eight || sixteen) ≡ true
     → (one || not zero && (two || four || eight || sixteen)) ≡ true

@@ -1,6 +1,6 @@
 use Rattle.bbm_rules.proofs.Common.{from_contains}
 use Rattle.bbm_certify.proofs.ClaimsFit.{claims_fit}
-use Rattle.bbm_events.proofs.Written.{ranges}
+use Rattle.bbm_events.proofs.Ranges.{ranges}
 use Rattle.bbm_certify.proofs.FewClaims.{few_claims_of}
 use Rattle.bbm_certify.proofs.laws.law_certificate_can_be_written.Goals as goal
 
