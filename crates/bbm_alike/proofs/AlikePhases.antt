@@ -3,6 +3,7 @@ use Rattle.bbm_rules.proofs.Common.{option_map_or, ◌≡◌, ℕ, ◌<◌, Bool
 use Rattle.bbm_rules.proofs.Common.{count_by, is_some, refl, sym, ◌∙◌, ap, fun_ext, is_valid, Trust, noted, last_valid}
 use Rattle.bbm_rules.proofs.Common.{Noted, events_of, broken_phase, is_restless, page_of, Heading, Event, Node, held_at}
 use Rattle.bbm_rules.proofs.Common.{node_of, value_of, written_places}
+use Rattle.bbm_rules.specs.Held.{emptied}
 use Rattle.bbm_rules.specs.declared.phase.Phase.{Phase}
 use Rattle.bbm_rules.specs.declared.phase.Phase.TheVariants.{Live}
 use Rattle.bbm_rules.specs.Phases.{phase_of, restless_of}
@@ -35,8 +36,8 @@ module _ (heading : Heading) (k : Known heading) (one other : Trust) (h h' : Lis
     by_held n None found found' is is' =
         (k.phase_parts one).empty h place p n found is ∙ sym ((k.phase_parts other).empty h' place p n found' is')
     by_held n (Some value) found found' is is' =
-        let w = last_of heading one place value (last_valid n.kind n.level place marks) is in
-        let w' = last_of heading other place value (last_valid n.kind n.level place marks') is' in
+        let w = last_of heading one (emptied heading one n.kind n.level place marks) place value (last_valid n.kind n.level place marks) is in
+        let w' = last_of heading other (emptied heading other n.kind n.level place marks') place value (last_valid n.kind n.level place marks') is' in
         let taken = (k.tree one).taken marks (page_of place) n found in
         let same : SamePatterns heading place one other w.0.since w'.0.since
         = a.patterns n place w.0 w'.0 taken.0 (sym taken.1) (ap is_some is) w.1 w'.1 in

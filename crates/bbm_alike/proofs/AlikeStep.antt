@@ -7,7 +7,7 @@ use Rattle.bbm_alike.specs.KnownOfHistories.{Known}
 use Rattle.bbm_alike.specs.SameTags.{SameTags}
 use Rattle.bbm_alike.proofs.PlainSteps.{locks_step, nulls_step, places_step, registers_step, roots_step, values_step}
 use Rattle.bbm_alike.proofs.TagSteps.{same_tags_step}
-use Rattle.bbm_alike.proofs.TreesStep.{clean_step, fresh_step, held_step, patterns_step, trees_step}
+use Rattle.bbm_alike.proofs.TreesStep.{clean_step, fresh_step, held_step, patterns_step, tops_step, trees_step}
 
 given_step : (h h' : List Event) (e : Event) → given_up h ≡ given_up h' → given_up (e ∷ h) ≡ given_up (e ∷ h')
 given_step h h' (Unroot pe page) same = ap (λ (pages : List ℕ). with_number page pages) same
@@ -43,6 +43,7 @@ module _ (heading : Heading) (k : Known heading) (one other : Trust) (h h' : Lis
     clean = clean_step heading k one other h h' a e pes unbroken unbroken' t values roots places;
     held = held_step heading k one other h h' a e pes unbroken unbroken' t values roots places;
     patterns = patterns_step heading k one other h h' a e pes unbroken unbroken' t values roots places;
+    tops = tops_step heading k one other h h' a e pes unbroken unbroken' t values roots places;
     tags = tags.tags;
     given = given_step h h' e a.given;
     holds = tags.holds;

@@ -2,6 +2,9 @@
 use Rattle.bbm_rules.proofs.Common.{[], true≢false, ◌≡◌, ℕ, true, false, List, Option, Some, None, is_some, Contains}
 use Rattle.bbm_rules.proofs.Common.{refl, sym, ◌∙◌, ap, subst, Heading, Event, Trust, noted, ValidWrite, last_valid}
 use Rattle.bbm_rules.proofs.Common.{Noted, page_of, Node, held_at}
+use Rattle.bbm_rules.proofs.Common.{map}
+use Rattle.bbm_rules.specs.Held.{emptied, empties_tables}
+use Rattle.bbm_rules.specs.Notes.{topped}
 use Rattle.bbm_rules.specs.Tree.{tree}
 use Rattle.bbm_alike.specs.Alike.{Alike, SamePatterns}
 use Rattle.bbm_alike.proofs.HeldStep.{last_of}
@@ -73,6 +76,10 @@ module _ (heading : Heading) where
     patterns = λ n place w w' there inside some last last'.
         let both : w ≡ w' = let e : Some w ≡ Some w' = sym last ∙ last' in cc in
         subst (λ (v : ValidWrite). SamePatterns heading place trust trust w.since v.since) both (same_itself place trust w.since);
+    tops = λ late n place w w' there inside some last last'.
+        let both : w ≡ w' = let e : Some w ≡ Some w' = sym last ∙ last' in cc in
+        subst (λ (v : ValidWrite). SamePatterns heading place trust trust (map topped w.since) (map topped v.since)) both
+        (same_itself place trust (map topped w.since));
     tags = λ root. refl;
     given = refl;
     holds = λ p root tag below. refl;
@@ -94,6 +101,7 @@ module _ (heading : Heading) where
     clean = λ page. refl;
     held = λ n place there inside. refl;
     patterns = λ n place w w' there inside some last last'. absurd (true≢false (sym some));
+    tops = λ late n place w w' there inside some last last'. absurd (true≢false (sym some));
     tags = λ root. refl;
     given = refl;
     holds = λ p root tag below. refl;
@@ -120,6 +128,9 @@ module _ (heading : Heading) where
       patterns = λ n place w w' there inside some last last'.
           same_turned place one other w'.since w.since (a.patterns n place w' w (in_both n there) inside
           (ap is_some (a.held n place (in_both n there) inside) ∙ some) last' last);
+      tops = λ late n place w w' there inside some last last'.
+          same_turned place one other (map topped w'.since) (map topped w.since) (a.tops late n place w' w (in_both n there) inside
+          (ap is_some (a.held n place (in_both n there) inside) ∙ some) last' last);
       tags = λ root. sym (a.tags root);
       given = sym a.given;
       holds = λ p root tag below. sym (a.holds p root tag below);
@@ -145,9 +156,30 @@ module _ (heading : Heading) where
             → SamePatterns heading place one other w.since w'.since
         by None none = let apart : false ≡ true = ap is_some (sym none) ∙ holds in cc
         by (Some value) is =
-            let u = last_of heading middle place value (last_valid n.kind n.level place (noted heading middle h')) is in
+            let u = last_of heading middle (emptied heading middle n.kind n.level place (noted heading middle h')) place value (last_valid n.kind n.level place (noted heading middle h')) is in
             same_through place one middle other w.since u.0.since w'.since (a.patterns n place w u.0 there inside some last u.1)
             (b.patterns n place u.0 w' (on n there) inside holds u.1 last')
+
+    tops_through : empties_tables heading.version ≡ true → (n : Node) (place : ℕ) (w w' : ValidWrite)
+        → Contains (tree heading one (noted heading one h)) n
+        → page_of place ≡ n.page → is_some (held_at heading one (noted heading one h) n place) ≡ true
+        → last_valid n.kind n.level place (noted heading one h) ≡ Some w
+        → last_valid n.kind n.level place (noted heading other h'') ≡ Some w'
+        → SamePatterns heading place one other (map topped w.since) (map topped w'.since)
+    tops_through late n place w w' there inside some last last' = by (held_at heading middle (noted heading middle h') n place) refl
+      where
+        holds : is_some (held_at heading middle (noted heading middle h') n place) ≡ true
+        holds = ap is_some (sym (a.held n place there inside)) ∙ some
+
+        by : (o : Option ℕ) → held_at heading middle (noted heading middle h') n place ≡ o
+            → SamePatterns heading place one other (map topped w.since) (map topped w'.since)
+        by None none = let apart : false ≡ true = ap is_some (sym none) ∙ holds in cc
+        by (Some value) is =
+            let u = last_of heading middle (emptied heading middle n.kind n.level place (noted heading middle h')) place value
+            (last_valid n.kind n.level place (noted heading middle h')) is in
+            same_through place one middle other (map topped w.since) (map topped u.0.since) (map topped w'.since)
+            (a.tops late n place w u.0 there inside some last u.1)
+            (b.tops late n place u.0 w' (on n there) inside holds u.1 last')
 
     pub joined_alike : Alike heading one other h h''
     joined_alike = record {
@@ -165,6 +197,7 @@ module _ (heading : Heading) where
       clean = λ page. a.clean page ∙ b.clean page;
       held = λ n place there inside. a.held n place there inside ∙ b.held n place (on n there) inside;
       patterns = patterns_through;
+      tops = tops_through;
       tags = λ root. a.tags root ∙ b.tags root;
       given = a.given ∙ b.given;
       holds = λ p root tag below. a.holds p root tag below ∙ b.holds p root tag below;

@@ -40,12 +40,12 @@ module _ (heading : Heading) (k : Known heading) where
       by e c = c
 
   module _ (one other : Trust) (place : ℕ) (since since' : List Noted) (s : SamePatterns heading place one other since since')
-      (e : Event) (covers covers' : ℕ → Cover) (position position' : ℕ) (same : covers place ≡ covers' place) where
+      (e : Event) (covers covers' tops tops' : ℕ → Cover) (position position' : ℕ) (same : covers place ≡ covers' place) where
     abbrev next : Noted
-    next = record { event = e; covers = covers; position = position }
+    next = record { event = e; covers = covers; tops = tops; position = position }
 
     abbrev next' : Noted
-    next' = record { event = e; covers = covers'; position = position' }
+    next' = record { event = e; covers = covers'; tops = tops'; position = position' }
 
     writers_after : (p q : ℕ) → wrote heading place p q (next ∷ since) ≡ wrote heading place p q (next' ∷ since')
     writers_after p q = ap (λ (b : Bool). writes q place e || b) (s.writers p q)

@@ -3,6 +3,8 @@
 use Rattle.bbm_rules.proofs.Common.{◌≡◌, ℕ, ◌<◌, ◌&&◌, ◌||◌, not, Bool, true, false, List, ◌∷◌, refl, sym, ◌∙◌, ap}
 use Rattle.bbm_rules.proofs.Common.{or_right, Barrier, Heading, Event, Dsb, Tag, Trust, Patterns, cleansed, note, noted}
 use Rattle.bbm_rules.proofs.Common.{Noted, kept_at, loses, reads_for_some}
+use Rattle.bbm_rules.proofs.Common.{map}
+use Rattle.bbm_rules.specs.Notes.{topped}
 use Rattle.bbm_histories.specs.ClaimSteps.{cleansed_under}
 use Rattle.bbm_histories.specs.HistorySteps.{answered_by, cleansed_after, full_waits, second_waits, tag_waits}
 use Rattle.bbm_alike.specs.Alike.{Alike, SamePatterns, TakesAlike}
@@ -57,6 +59,10 @@ module _ (heading : Heading) (k : Known heading) where
           k.pattern_steps.cleansed place p (note heading Patterns (noted heading Patterns h) e) w.since
           ∙ (cleansed_by place p below w.since w'.since (a.patterns n place w w' there inside some last last') e
           ∙ sym (k.pattern_steps.cleansed place p (note heading Patterns (noted heading Patterns h') e) w'.since));
+      tops = λ late n place p w w' there stays inside some last last' below.
+          k.pattern_steps.cleansed place p (topped (note heading Patterns (noted heading Patterns h) e)) (map topped w.since)
+          ∙ (cleansed_by place p below (map topped w.since) (map topped w'.since) (a.tops late n place w w' there inside some last last') e
+          ∙ sym (k.pattern_steps.cleansed place p (topped (note heading Patterns (noted heading Patterns h') e)) (map topped w'.since)));
       takes = lost_by e;
     }
 
@@ -82,5 +88,12 @@ module _ (heading : Heading) (k : Known heading) where
           ∙ (s.cleansed_alike p below
           ∙ sym ((k.claim_steps other).cleansed place p (note heading other (noted heading other h') e) w'.since
           ∙ cleansed_still other place p (note heading other (noted heading other h') e).position e w'.since no_dsb)));
+      tops = λ late n place p w w' there stays inside some last last' below.
+          let s = a.tops late n place w w' there inside some last last' in
+          (k.claim_steps one).cleansed place p (topped (note heading one (noted heading one h) e)) (map topped w.since)
+          ∙ (cleansed_still one place p (note heading one (noted heading one h) e).position e (map topped w.since) no_dsb
+          ∙ (s.cleansed_alike p below
+          ∙ sym ((k.claim_steps other).cleansed place p (topped (note heading other (noted heading other h') e)) (map topped w'.since)
+          ∙ cleansed_still other place p (note heading other (noted heading other h') e).position e (map topped w'.since) no_dsb)));
       takes = λ p root tag below holds. none_lost one p tag e h no_dsb ∙ sym (none_lost other p tag e h' no_dsb);
     }

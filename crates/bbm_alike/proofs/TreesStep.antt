@@ -4,6 +4,11 @@ use Rattle.bbm_rules.proofs.Common.{is_some, find, Contains, ◌++◌, ◌==◌,
 use Rattle.bbm_rules.proofs.Common.{Heading, Event, Root, Write, keeps, Trust, noted, ValidWrite, last_valid, Noted}
 use Rattle.bbm_rules.proofs.Common.{events_of, is_fresh, may_be_fresh, page_of, roots_of, Node, held_at, in_tree}
 use Rattle.bbm_rules.proofs.Common.{next_of, node_below, value_of, written_places}
+use Rattle.bbm_rules.proofs.Common.{map}
+use Rattle.bbm_rules.proofs.Emptied.{seen_topped, wrote_topped}
+use Rattle.bbm_rules.specs.Held.{empties_tables}
+use Rattle.bbm_rules.specs.Notes.{topped}
+use Rattle.bbm_histories.specs.HistorySteps.{wrote}
 use Rattle.bbm_rules.specs.Mapped.{initialises, is_clean, is_mapped}
 use Rattle.bbm_rules.specs.Tree.{tree}
 use Rattle.bbm_histories.specs.TreeChanges.{Attaches, Through}
@@ -94,30 +99,41 @@ module _ (heading : Heading) (k : Known heading) (one other : Trust) (h h' : Lis
           by true s = refl
           by false s = s
 
-      patterns_new : (w w' : ValidWrite) → is_some (held_at heading one now n place) ≡ true
-          → last_valid n.kind n.level place now ≡ Some w → last_valid n.kind n.level place now' ≡ Some w'
-          → SamePatterns heading place one other w.since w'.since
-      patterns_new w w' some last last' =
-          quiet_alike heading k place one other w.since w'.since
-          (λ p q. unwritten heading place p q w.since (quiet now w valid last))
-          (λ p q. unwritten heading place p q w'.since (quiet now' w' valid' last'))
-          (λ p. present.unseen w p last) (λ p. present'.unseen w' p last')
-        where
-          valid : is_valid n.kind n.level (value_of (events_of now) place) ≡ true
-          valid = valid_where (value_of (events_of now) place) (ap is_some (sym present.holds) ∙ some)
+      module _ (w w' : ValidWrite) (some : is_some (held_at heading one now n place) ≡ true)
+          (last : last_valid n.kind n.level place now ≡ Some w) (last' : last_valid n.kind n.level place now' ≡ Some w') where
+        valid : is_valid n.kind n.level (value_of (events_of now) place) ≡ true
+        valid = valid_where (value_of (events_of now) place) (ap is_some (sym present.holds) ∙ some)
 
-          valid' : is_valid n.kind n.level (value_of (events_of now') place) ≡ true
-          valid' =
-              ap (λ (v : ℕ). is_valid n.kind n.level v) (sym (events_alike (λ (es : List Event). value_of es place) (values place)))
-              ∙ valid
+        valid' : is_valid n.kind n.level (value_of (events_of now') place) ≡ true
+        valid' =
+            ap (λ (v : ℕ). is_valid n.kind n.level v) (sym (events_alike (λ (es : List Event). value_of es place) (values place)))
+            ∙ valid
 
-          quiet : (x : List Noted) (u : ValidWrite) → is_valid n.kind n.level (value_of (events_of x) place) ≡ true
-              → last_valid n.kind n.level place x ≡ Some u
-              → (q v : ℕ) (m : Noted) (after before : List Noted) → u.since ≡ after ++ m ∷ before → m.event ≡ Write q place v → ⊥
-          quiet x u live is q v m after before split =
-              let l = k.last_valid.live n.kind n.level place x live in
-              let same : l.0 ≡ u = let both : Some l.0 ≡ Some u = sym l.1 ∙ is in cc in
-              l.3 q v m after before (ap (λ (y : ValidWrite). y.since) same ∙ split)
+        quiet : (x : List Noted) (u : ValidWrite) → is_valid n.kind n.level (value_of (events_of x) place) ≡ true
+            → last_valid n.kind n.level place x ≡ Some u
+            → (q v : ℕ) (m : Noted) (after before : List Noted) → u.since ≡ after ++ m ∷ before → m.event ≡ Write q place v → ⊥
+        quiet x u live is q v m after before split =
+            let l = k.last_valid.live n.kind n.level place x live in
+            let same : l.0 ≡ u = let both : Some l.0 ≡ Some u = sym l.1 ∙ is in cc in
+            l.3 q v m after before (ap (λ (y : ValidWrite). y.since) same ∙ split)
+
+        written_one : (p q : ℕ) → wrote heading place p q w.since ≡ false
+        written_one p q = unwritten heading place p q w.since (quiet now w valid last)
+
+        written_other : (p q : ℕ) → wrote heading place p q w'.since ≡ false
+        written_other p q = unwritten heading place p q w'.since (quiet now' w' valid' last')
+
+        patterns_new : SamePatterns heading place one other w.since w'.since
+        patterns_new =
+            quiet_alike heading k place one other w.since w'.since written_one written_other
+            (λ p. present.unseen w p last) (λ p. present'.unseen w' p last')
+
+        tops_new : SamePatterns heading place one other (map topped w.since) (map topped w'.since)
+        tops_new =
+            quiet_alike heading k place one other (map topped w.since) (map topped w'.since)
+            (λ p q. wrote_topped q place w.since ∙ written_one p q) (λ p q. wrote_topped q place w'.since ∙ written_other p q)
+            (λ p. seen_topped heading place p w.since ∙ present.unseen w p last)
+            (λ p. seen_topped heading place p w'.since ∙ present'.unseen w' p last')
 
     -- ---- any page
 
@@ -125,7 +141,7 @@ module _ (heading : Heading) (k : Known heading) (one other : Trust) (h h' : Lis
         → held_at heading one now n place ≡ held_at heading other now' n place
     held_step n place there inside =
         elim ((k.one_position one).gained h e unbroken n there) [
-          | inl old ↦ held_old heading k one other h h' pes a e t n place old there inside
+          | inl old ↦ held_old heading k one other h h' pes a e t unbroken n place old there inside
           | inr made ↦ held_new n place made.0 inside
         ]
 
@@ -134,8 +150,18 @@ module _ (heading : Heading) (k : Known heading) (one other : Trust) (h h' : Lis
         → last_valid n.kind n.level place now' ≡ Some w' → SamePatterns heading place one other w.since w'.since
     patterns_step n place w w' there inside some last last' =
         elim ((k.one_position one).gained h e unbroken n there) [
-          | inl old ↦ patterns_old heading k one other h h' pes a e t n place old there inside w w' some last last'
+          | inl old ↦ (patterns_old heading k one other h h' pes a e t unbroken n place old there inside w w' some last last').0
           | inr made ↦ patterns_new n place made.0 inside w w' some last last'
+        ]
+
+    pub tops_step : empties_tables heading.version ≡ true → (n : Node) (place : ℕ) (w w' : ValidWrite) → Contains (tree heading one now) n
+        → page_of place ≡ n.page
+        → is_some (held_at heading one now n place) ≡ true → last_valid n.kind n.level place now ≡ Some w
+        → last_valid n.kind n.level place now' ≡ Some w' → SamePatterns heading place one other (map topped w.since) (map topped w'.since)
+    tops_step late n place w w' there inside some last last' =
+        elim ((k.one_position one).gained h e unbroken n there) [
+          | inl old ↦ (patterns_old heading k one other h h' pes a e t unbroken n place old there inside w w' some last last').1 late
+          | inr made ↦ tops_new n place made.0 inside w w' some last last'
         ]
 
     pub trees_step : tree heading one now ≡ tree heading other now'

@@ -7,25 +7,26 @@ use Rattle.bbm_rules.specs.Claims.{Patterns}
 use Rattle.bbm_gen.specs.Generated.{heading, ish, ishst}
 
 -- an event with its notes
-abbrev pub mark : Event → (ℕ → Cover) → ℕ → Noted
-mark e covers position = record { event = e; covers = covers; position = position }
+abbrev pub mark : Event → (ℕ → Cover) → (ℕ → Cover) → ℕ → Noted
+mark e covers tops position = record { event = e; covers = covers; tops = tops; position = position }
 
-module _ (place : ℕ) (itself : (place == place) ≡ true) (c1 c2 c3 c4 c5 c6 c7 : ℕ → Cover) (k1 k2 k3 k4 k5 k6 k7 : ℕ) where
+module _ (place : ℕ) (itself : (place == place) ≡ true) (c1 c2 c3 c4 c5 c6 c7 : ℕ → Cover)
+    (t1 t2 t3 t4 t5 t6 t7 : ℕ → Cover) (k1 k2 k3 k4 k5 k6 k7 : ℕ) where
   -- after the block of an EL2 round: its clear is published
   abbrev pub published : ℕ → List Noted
-  published p = mark (Dsb p ishst) c3 k3 ∷ mark (Write p place 0) c2 k2 ∷ mark (Dsb p ishst) c1 k1 ∷ []
+  published p = mark (Dsb p ishst) c3 t3 k3 ∷ mark (Write p place 0) c2 t2 k2 ∷ mark (Dsb p ishst) c1 t1 k1 ∷ []
 
   abbrev pub el2_flushed : ℕ → ℕ → List Noted
-  el2_flushed p page = mark (Dsb p ish) c5 k5 ∷ mark (Tlbi p Vae2is page) c4 k4 ∷ published p
+  el2_flushed p page = mark (Dsb p ish) c5 t5 k5 ∷ mark (Tlbi p Vae2is page) c4 t4 k4 ∷ published p
 
   abbrev pub s2_issued : ℕ → List Noted
-  s2_issued page = mark (Tlbi 0 Ipas2e1is page) c4 k4 ∷ published 0
+  s2_issued page = mark (Tlbi 0 Ipas2e1is page) c4 t4 k4 ∷ published 0
 
   abbrev pub s2_half : ℕ → List Noted
-  s2_half page = mark (Dsb 0 ish) c5 k5 ∷ s2_issued page
+  s2_half page = mark (Dsb 0 ish) c5 t5 k5 ∷ s2_issued page
 
   abbrev pub s2_flushed : ℕ → List Noted
-  s2_flushed page = mark (Dsb 0 ish) c7 k7 ∷ mark (Tlbi 0 Vmalle1is 0) c6 k6 ∷ s2_half page
+  s2_flushed page = mark (Dsb 0 ish) c7 t7 k7 ∷ mark (Tlbi 0 Vmalle1is 0) c6 t6 k6 ∷ s2_half page
 
   pub not_before : (p : ℕ) → p < 4 → cleansed_everywhere heading Patterns place (published p) ≡ false
   not_before zero lt = refl

@@ -4,6 +4,7 @@ use Rattle.bbm_rules.proofs.Common.{sym, ap, ◌∙◌, subst, arith, if◌then�
 use Rattle.bbm_rules.proofs.Common.{Kind, meets, Form, core_of, desc_of, form_of, is_valid, needs, contiguous_of}
 use Rattle.bbm_rules.proofs.Common.{vmid_matches, VmAll1, of_world, scoped_by_vmid, scope_of, Half, Second, Full}
 use Rattle.bbm_rules.proofs.Common.{Vae2is, Ipas2e1is, Barrier, Event, TlbiOp, Scope, Write, Dsb, Dmb, Isb, Tlbi}
+use Rattle.bbm_rules.specs.Covers.{top_at}
 use Rattle.bbm_rules.proofs.Common.{VttbrEl2, cover_at, note, ValidWrite, cleansed_everywhere, held, last_valid, Noted}
 use Rattle.bbm_rules.proofs.Common.{events_of, page_of, vmid_of, lacks_vmid, tag_number, is_fresh, is_null, lock_of}
 use Rattle.bbm_rules.proofs.Common.{roots_of, is_contiguous, tag_set, tags_of, held_at, next_of, node_of, region_of}
@@ -185,7 +186,8 @@ s2_rest h place block node holds is same = rw (is, node, holds, same) refl
 held_is : (h : List Noted) (kind : Kind) (place : ℕ) (w : ValidWrite) (c : Bool) → last_valid kind 1 place h ≡ Some w
     → cleansed_everywhere heading Patterns place w.since ≡ c
     → held heading Patterns kind 1 place h ≡ (if c then None else Some w.value)
-held_is h kind place w c last e = rw (last, e) refl
+held_is h kind place w true last e = rw (last, e) refl
+held_is h kind place w false last e = rw (last, e) refl
 
 first_write : (kind : Kind) (p place block : ℕ) (h : List Event) → is_valid kind 1 block ≡ true
     → last_valid kind 1 place (notes (Write p place block ∷ h)) ≡ Some (record { value = block; since = [] })
@@ -269,6 +271,8 @@ module _ (b : Below) (h : List Event) (w : Whole h) (p place block page : ℕ) (
   held4 = held_is (notes e4) El2 place _ false last4 (not_before place (eq-eqb place place refl)
       (cover_at heading Patterns (notes e1) (Dsb p ishst)) (cover_at heading Patterns (notes e2) (Write p place 0))
       (cover_at heading Patterns (notes e3) (Dsb p ishst)) (λ a. Full) (λ a. Full) (λ a. Full) (λ a. Full)
+      (top_at heading Patterns (notes e1) (Dsb p ishst)) (top_at heading Patterns (notes e2) (Write p place 0))
+      (top_at heading Patterns (notes e3) (Dsb p ishst)) (λ a. Full) (λ a. Full) (λ a. Full) (λ a. Full)
       (suc (length (notes e1))) (suc (length (notes e2))) (suc (length (notes e3))) 0 0 0 0 p lt)
 
   full : cover_at heading Patterns (notes e4) (Tlbi p Vae2is page) place ≡ Full
@@ -284,6 +288,9 @@ module _ (b : Below) (h : List Event) (w : Whole h) (p place block page : ℕ) (
       (cover_at heading Patterns (notes e1) (Dsb p ishst)) (cover_at heading Patterns (notes e2) (Write p place 0))
       (cover_at heading Patterns (notes e3) (Dsb p ishst)) (cover_at heading Patterns (notes e4) (Tlbi p Vae2is page))
       (cover_at heading Patterns (notes e5) (Dsb p ish)) (λ a. Full) (λ a. Full)
+      (top_at heading Patterns (notes e1) (Dsb p ishst)) (top_at heading Patterns (notes e2) (Write p place 0))
+      (top_at heading Patterns (notes e3) (Dsb p ishst)) (top_at heading Patterns (notes e4) (Tlbi p Vae2is page))
+      (top_at heading Patterns (notes e5) (Dsb p ish)) (λ a. Full) (λ a. Full)
       (suc (length (notes e1))) (suc (length (notes e2))) (suc (length (notes e3))) (suc (length (notes e4)))
       (suc (length (notes e5))) 0 0 p page lt full)
 
@@ -368,6 +375,8 @@ module _ (b : Below) (h : List Event) (w : Whole h) (place block page : ℕ) (in
   s_held4 = held_is (notes f4) S2 place _ false s_last4 (not_before place (eq-eqb place place refl)
       (cover_at heading Patterns (notes f1) (Dsb 0 ishst)) (cover_at heading Patterns (notes f2) (Write 0 place 0))
       (cover_at heading Patterns (notes f3) (Dsb 0 ishst)) (λ a. Full) (λ a. Full) (λ a. Full) (λ a. Full)
+      (top_at heading Patterns (notes f1) (Dsb 0 ishst)) (top_at heading Patterns (notes f2) (Write 0 place 0))
+      (top_at heading Patterns (notes f3) (Dsb 0 ishst)) (λ a. Full) (λ a. Full) (λ a. Full) (λ a. Full)
       (suc (length (notes f1))) (suc (length (notes f2))) (suc (length (notes f3))) 0 0 0 0 0 (omega arith))
 
   s_vmid : (k : List Event) → Stands k → vmid_of heading (events_of (notes k)) 0 ≡ Some 1
@@ -397,6 +406,9 @@ module _ (b : Below) (h : List Event) (w : Whole h) (place block page : ℕ) (in
       (cover_at heading Patterns (notes f1) (Dsb 0 ishst)) (cover_at heading Patterns (notes f2) (Write 0 place 0))
       (cover_at heading Patterns (notes f3) (Dsb 0 ishst)) (cover_at heading Patterns (notes f4) (Tlbi 0 Ipas2e1is page))
       (cover_at heading Patterns (notes f5) (Dsb 0 ish)) (λ a. Full) (λ a. Full)
+      (top_at heading Patterns (notes f1) (Dsb 0 ishst)) (top_at heading Patterns (notes f2) (Write 0 place 0))
+      (top_at heading Patterns (notes f3) (Dsb 0 ishst)) (top_at heading Patterns (notes f4) (Tlbi 0 Ipas2e1is page))
+      (top_at heading Patterns (notes f5) (Dsb 0 ish)) (λ a. Full) (λ a. Full)
       (suc (length (notes f1))) (suc (length (notes f2))) (suc (length (notes f3))) (suc (length (notes f4)))
       (suc (length (notes f5))) 0 0 page half_cover)
 
@@ -415,6 +427,10 @@ module _ (b : Below) (h : List Event) (w : Whole h) (place block page : ℕ) (in
       (cover_at heading Patterns (notes f3) (Dsb 0 ishst)) (cover_at heading Patterns (notes f4) (Tlbi 0 Ipas2e1is page))
       (cover_at heading Patterns (notes f5) (Dsb 0 ish)) (cover_at heading Patterns (notes f6) (Tlbi 0 Vmalle1is 0))
       (cover_at heading Patterns (notes f7) (Dsb 0 ish))
+      (top_at heading Patterns (notes f1) (Dsb 0 ishst)) (top_at heading Patterns (notes f2) (Write 0 place 0))
+      (top_at heading Patterns (notes f3) (Dsb 0 ishst)) (top_at heading Patterns (notes f4) (Tlbi 0 Ipas2e1is page))
+      (top_at heading Patterns (notes f5) (Dsb 0 ish)) (top_at heading Patterns (notes f6) (Tlbi 0 Vmalle1is 0))
+      (top_at heading Patterns (notes f7) (Dsb 0 ish))
       (suc (length (notes f1))) (suc (length (notes f2))) (suc (length (notes f3))) (suc (length (notes f4)))
       (suc (length (notes f5))) (suc (length (notes f6))) (suc (length (notes f7))) page half_cover second_cover)
 

@@ -5,6 +5,7 @@ use Rattle.bbm_rules.proofs.Common.{Some, None, option_and_then, refl, sym, ◌�
 use Rattle.bbm_rules.proofs.Common.{eq-eqb, eqb-true, or_parts, Kind, is_valid, needs, Trust, note, held, if_so, Noted}
 use Rattle.bbm_rules.proofs.Common.{events_of, is_null, Cleansed, page_of, Node, held_at, in_tree, node_of, value_of}
 use Rattle.bbm_barriers.specs.declared.Dsb.{Dsb as Barrier}
+use Rattle.bbm_rules.specs.Held.{emptied}
 use Rattle.bbm_rules.specs.declared.rule.Rule.TheVariants.{BreakBeforeMake}
 use Rattle.bbm_histories.specs.TreeChanges.{HeldChange}
 use Rattle.bbm_histories.proofs.Induction.{Unbroken}
@@ -16,7 +17,7 @@ use Rattle.bbm_histories.proofs.PatternLemmas.{cleansed_stays, one_begins, two_b
 abbrev pub IsDsb : Event → Type 0
 IsDsb e = (q : ℕ) × (dsb : Barrier) × (e ≡ Dsb q dsb)
 
-cleansed_before : (heading : Heading) (trust : Trust) (place p : ℕ) (n : Noted) (since : List Noted) → (IsDsb n.event → ⊥)
+pub cleansed_before : (heading : Heading) (trust : Trust) (place p : ℕ) (n : Noted) (since : List Noted) → (IsDsb n.event → ⊥)
     → Cleansed heading trust place p (n ∷ since) → Cleansed heading trust place p since
 cleansed_before heading trust place p n since other (inl k) =
     elim (one_begins heading trust place p n since k) [
@@ -39,6 +40,16 @@ module _ (heading : Heading) (trust : Trust) (b : Below heading trust) (kind : K
       k : Holds heading trust kind level place (n ∷ h) value
       k = b.held.sound kind level place (n ∷ h) value e
 
+      not_yet : (m : Noted) (newer : List Noted) → k.since ≡ m ∷ newer
+          → n ∷ h ≡ (m ∷ newer) ++ k.last_write.write ∷ k.last_write.older
+          → (c : Bool) → emptied heading trust kind level place h ≡ c → c ≡ false
+      not_yet m newer is split false e = refl
+      not_yet m newer is split true e =
+          let first : m ≡ n = cc in
+          absurd (true≢false (sym (b.held.emptied_stays kind level place n h
+          (λ q v w. k.last_write.last q v m [] newer is (ap (λ (x : Noted). x.event) first ∙ w))
+          (λ q w. k.last_write.no_init q m [] newer is (ap (λ (x : Noted). x.event) first ∙ w)) e) ∙ k.unemptied))
+
       by : (newer : List Noted) → k.since ≡ newer → n ∷ h ≡ newer ++ k.last_write.write ∷ k.last_write.older
           → (held heading trust kind level place h ≡ Some value) ⊎ ((q : ℕ) × (n.event ≡ Write q place value))
       by [] is split =
@@ -60,6 +71,7 @@ module _ (heading : Heading) (trust : Trust) (b : Below heading trust) (kind : K
         is_pe = k.is_pe;
         uncleansed = λ c. k.uncleansed (subst (λ (xs : List Noted). Cleansed heading trust place k.p xs) (sym is)
             (cleansed_stays heading trust place k.p (m ∷ []) newer c));
+        unemptied = not_yet m newer is split (emptied heading trust kind level place h) refl;
       }))
 
   pub held_valid : (h : List Noted) (value : ℕ) → held heading trust kind level place h ≡ Some value
@@ -93,8 +105,17 @@ module _ (heading : Heading) (trust : Trust) (b : Below heading trust) (kind : K
         p = k.p;
         is_pe = k.is_pe;
         uncleansed = λ c. k.uncleansed (cleansed_before heading trust place k.p n k.since leaves.no_dsb c);
+        unemptied = not_now k (emptied heading trust kind level place (n ∷ h)) refl;
       })
     where
+      not_now : Holds heading trust kind level place h value → (c : Bool) → emptied heading trust kind level place (n ∷ h) ≡ c → c ≡ false
+      not_now k false e = refl
+      not_now k true e =
+          elim (b.held.emptied_step kind level place n h e) [
+            | inl before ↦ absurd (true≢false (sym before ∙ k.unemptied))
+            | inr now ↦ absurd (leaves.no_dsb (now.0, now.1, now.2))
+          ]
+
       last : (k : Holds heading trust kind level place h value) (q v : ℕ) (x : Noted) (after before : List Noted)
           → n ∷ k.since ≡ after ++ x ∷ before → x.event ≡ Write q place v → is_valid kind level v ≡ false
       last k q v x [] before i is = let first : n ≡ x = cc in leaves.no_write q v (ap (λ (y : Noted). y.event) first ∙ is)

@@ -31,3 +31,4 @@ pub mod ValueSteps
 pub mod FreshSteps
 pub mod PhaseLemmas
 pub mod BaseLemmas
+mod EmptyNow

@@ -1,17 +1,22 @@
 -- The phase of a place by its node, what it holds, its value, and what is cleansed, half and seen.
 use Rattle.bbm_histories.proofs.Common.{Heading}
-use Rattle.bbm_rules.proofs.Common.{◌≡◌, ℕ, Bool, true, false, cond, List, Option, Some, None, option_and_then}
+use Rattle.bbm_rules.proofs.Common.{◌≡◌, ◌||◌, ℕ, Bool, true, false, cond, List, Option, Some, None, option_and_then}
 use Rattle.bbm_rules.proofs.Common.{unwrap_or, refl, sym, ◌∙◌, ap, is_valid, Event, Trust, noted, ValidWrite}
 use Rattle.bbm_rules.proofs.Common.{cleansed_everywhere, last_valid, broken_phase, page_of, Node, held_at, node_of}
 use Rattle.bbm_rules.proofs.Common.{value_of}
 use Rattle.bbm_rules.specs.declared.phase.Phase.{Phase}
 use Rattle.bbm_rules.specs.declared.phase.Phase.TheVariants.{Clean, Live}
+use Rattle.bbm_rules.specs.Held.{emptied}
 use Rattle.bbm_rules.specs.Phases.{phase_of}
 
 module _ (heading : Heading) (trust : Trust) (h : List Event) (place p : ℕ) where
+  -- whether nothing of the last valid write is held any more
+  abbrev gone : Node → ValidWrite → Bool
+  gone n w = emptied heading trust n.kind n.level place (noted heading trust h) || cleansed_everywhere heading trust place w.since
+
   -- by the last valid write
   abbrev of_write : Node → ValidWrite → Option Phase
-  of_write n w = cond (cleansed_everywhere heading trust place w.since) None
+  of_write n w = cond (gone n w) None
       (Some (cond (is_valid n.kind n.level (value_of h place)) Live (broken_phase heading trust place p w.since)))
 
   abbrev of_last : Node → Option ValidWrite → Phase
@@ -36,10 +41,10 @@ module _ (heading : Heading) (trust : Trust) (h : List Event) (place p : ℕ) wh
       go w false e = cc
 
       by : (o : Option ValidWrite)
-          → option_and_then (λ w. cond (cleansed_everywhere heading trust place w.since) None (Some w.value)) o ≡ None
+          → option_and_then (λ w. cond (gone n w) None (Some w.value)) o ≡ None
           → of_last n o ≡ Clean
       by None e = refl
-      by (Some w) e = go w (cleansed_everywhere heading trust place w.since) e
+      by (Some w) e = go w (gone n w) e
 
   pub holding : (value : ℕ) (n : Node) (w : ValidWrite) → node_of heading trust (noted heading trust h) (page_of place) ≡ Some n
       → held_at heading trust (noted heading trust h) n place ≡ Some value
@@ -47,8 +52,8 @@ module _ (heading : Heading) (trust : Trust) (h : List Event) (place p : ℕ) wh
       ≡ cond (is_valid n.kind n.level (value_of h place)) Live (broken_phase heading trust place p w.since)
   holding value n w k some last =
       phase_at (Some n) k ∙ (ap (of_last n) last
-      ∙ go (cleansed_everywhere heading trust place w.since)
-      (sym (ap (option_and_then (λ (x : ValidWrite). cond (cleansed_everywhere heading trust place x.since) None (Some x.value))) last) ∙ some))
+      ∙ go (gone n w)
+      (sym (ap (option_and_then (λ (x : ValidWrite). cond (gone n x) None (Some x.value))) last) ∙ some))
     where
       go : (c : Bool) → cond c None (Some w.value) ≡ Some value
           → unwrap_or (cond c None (Some (cond (is_valid n.kind n.level (value_of h place)) Live (broken_phase heading trust place p w.since)))) Clean

@@ -13,6 +13,7 @@ use Rattle.bbm_rules.proofs.Common.{or_middle}
 use Rattle.bbm_regimes.specs.declared.regime.Tag.{Tag}
 use Rattle.bbm_rules.specs.Notes.{event_of}
 use Rattle.bbm_rules.specs.Reach.{still_open}
+use Rattle.bbm_rules.specs.Held.{emptied}
 use Rattle.bbm_histories.specs.HistorySteps.{cleansed_after, half_after, is_tlbi, tag_waits, tag_waits_after, takes}
 use Rattle.bbm_histories.specs.HistorySteps.{waits_after, wrote}
 use Rattle.bbm_histories.proofs.HeldSteps.{held_same}
@@ -188,7 +189,7 @@ module _ (heading : Heading) (trust : Trust) (b : Below heading trust) (kind : K
       by : (c : Bool) → (page == page_of place) ≡ c
           → held heading trust kind level place (n ∷ h) ≡ cond c None (held heading trust kind level place h)
       by true c =
-          ap (option_and_then (λ w. cond (cleansed_everywhere heading trust place w.since) None (Some w.value)))
+          ap (option_and_then (λ w. cond (emptied heading trust kind level place (n ∷ h) || cleansed_everywhere heading trust place w.since) None (Some w.value)))
           (ap (λ (x : Event). last_valid_after kind level place x n (last_valid kind level place h)) change
           ∙ ap (λ (t : Bool). cond t None (later n (last_valid kind level place h))) c)
       by false c = held_same heading trust b kind level place n h (record {
@@ -198,13 +199,13 @@ module _ (heading : Heading) (trust : Trust) (b : Below heading trust) (kind : K
         no_dsb = λ k. let apart : Init pe page ≡ Dsb k.0 k.1 = sym change ∙ k.2 in cc;
       })
   held_by (Dsb pe dsb) n h change =
-      ap (option_and_then (λ w. cond (cleansed_everywhere heading trust place w.since) None (Some w.value)))
+      ap (option_and_then (λ w. cond (emptied heading trust kind level place (n ∷ h) || cleansed_everywhere heading trust place w.since) None (Some w.value)))
       (ap (λ (x : Event). last_valid_after kind level place x n (last_valid kind level place h)) change)
       ∙ one_more (last_valid kind level place h)
     where
       one_more : (o : Option ValidWrite)
-          → option_and_then (λ w. cond (cleansed_everywhere heading trust place w.since) None (Some w.value)) (later n o)
-          ≡ option_and_then (λ w. cond (cleansed_everywhere heading trust place (n ∷ w.since)) None (Some w.value)) o
+          → option_and_then (λ w. cond (emptied heading trust kind level place (n ∷ h) || cleansed_everywhere heading trust place w.since) None (Some w.value)) (later n o)
+          ≡ option_and_then (λ w. cond (emptied heading trust kind level place (n ∷ h) || cleansed_everywhere heading trust place (n ∷ w.since)) None (Some w.value)) o
       one_more None = refl
       one_more (Some w) = refl
   held_by e n h change = held_same heading trust b kind level place n h (record {

@@ -6,6 +6,7 @@ use Rattle.bbm_rules.proofs.Common.{refl, sym, ◌∙◌, ap, subst, inl, inr, t
 use Rattle.bbm_rules.proofs.Common.{is_valid, keeps, Trust, seen, note, noted, ValidWrite, held, last_valid, Noted}
 use Rattle.bbm_rules.proofs.Common.{events_of, is_fresh, IsLastValid, Publication, page_of, Node, held_at, is_readable}
 use Rattle.bbm_rules.proofs.Common.{published, value_of}
+use Rattle.bbm_rules.specs.Held.{emptied}
 use Rattle.bbm_histories.specs.ValueChanges.{Window}
 use Rattle.bbm_histories.proofs.CoreLemmas.{core_same}
 use Rattle.bbm_histories.proofs.HeldSteps.{init_outside, same_core}
@@ -162,7 +163,12 @@ module _ (heading : Heading) (trust : Trust) (b : Below heading trust) where
         is_pe = is_pe;
         uncleansed = λ c. true≢false
             (sym (b.seen.complete place p w.since (cleansed_is_seen heading trust place p w.since c)) ∙ unseen);
+        unemptied = by (emptied heading trust kind level place h) refl;
       })
+    where
+      by : (c : Bool) → emptied heading trust kind level place h ≡ c → c ≡ false
+      by false e = refl
+      by true e = absurd (true≢false (sym (b.held.emptied_seen kind level place h w p is_pe e last) ∙ unseen))
 
   -- a value that is readable in a fresh page, and valid, is the present one
   present_if_readable : (kind : Kind) (level place p value : ℕ) (h : List Noted) → OddStays heading trust h

@@ -7,11 +7,11 @@ use Rattle.bbm_rules.specs.Broken.{breaks, keeps}
 use Rattle.bbm_rules.specs.Claims.{Trust}
 use Rattle.bbm_rules.specs.Cleansing.{seen}
 use Rattle.bbm_rules.specs.Covers.{note, noted}
-use Rattle.bbm_rules.specs.Held.{ValidWrite, held, last_valid}
+use Rattle.bbm_rules.specs.Held.{empties_tables, ValidWrite, held, last_valid}
 use Rattle.bbm_rules.specs.Mapped.{initialises, is_clean, is_mapped, maps}
 use Rattle.bbm_rules.specs.Notes.{Noted, events_of}
 use Rattle.bbm_rules.specs.Pages.{is_fresh}
-use Rattle.bbm_rules.specs.PatternSentences.{Answer, Publication}
+use Rattle.bbm_rules.specs.PatternSentences.{Answer, EmptyAbove, Publication}
 use Rattle.bbm_rules.specs.Phases.{broken_phase, phase_of}
 use Rattle.bbm_rules.specs.Places.{page_of}
 use Rattle.bbm_rules.specs.Reach.{Issued}
@@ -98,6 +98,16 @@ LimboIsEmpty heading trust = (h : List Event) → keeps heading trust h ≡ true
     → HeldBy heading trust (noted heading trust h) n place value w → w.since ≡ newer ++ t ∷ before
     → noted heading trust h ≡ newer ++ t ∷ older → seen heading place p before ≡ true
     → StaysChildless heading trust (noted heading trust h) n value older
+
+-- In a history that keeps the rules, a place of a tree that holds something isn't both above at every PE and a table below
+-- which nothing is held. So a place is emptied exactly where it was so at some moment since its last valid write: the
+-- first such moment is that of a DSB.
+abbrev pub EmptiedAtOnce : Heading → Trust → Type 0
+EmptiedAtOnce heading trust = (h : List Event) → empties_tables heading.version ≡ true → 0 < heading.pes
+    → keeps heading trust h ≡ true → (n : Node) (place value : ℕ)
+    → Contains (tree heading trust (noted heading trust h)) n → page_of place ≡ n.page
+    → held_at heading trust (noted heading trust h) n place ≡ Some value
+    → EmptyAbove heading trust n.kind n.level place (noted heading trust h) → ⊥
 
 -- In a history that keeps the rules, no place of a tree of the lower range holds a leaf for every ASID.
 abbrev pub LowerLeaves : Heading → Trust → Type 0

@@ -12,7 +12,7 @@ use Rattle.bbm_rules.specs.Prelude.{Barrier, Kind, Tag, Heading, Event, Init, Wr
 use Rattle.bbm_rules.specs.Claims.{Trust}
 use Rattle.bbm_rules.specs.Claims.Trust.{Patterns}
 use Rattle.bbm_rules.specs.Cleansing.{cleansed, flushes, half, seen, writes}
-use Rattle.bbm_rules.specs.Held.{cleansed_everywhere, held, last_valid}
+use Rattle.bbm_rules.specs.Held.{cleansed_everywhere, emptied, held, last_valid}
 use Rattle.bbm_rules.specs.Lists.{◌>>=◌, any, some}
 use Rattle.bbm_rules.specs.Notes.{Noted, event_of}
 use Rattle.bbm_rules.specs.Places.{page_of}
@@ -80,7 +80,8 @@ held_after heading trust kind level place (Write pe at value) n h =
 held_after heading trust kind level place (Init pe page) n h =
     if page == page_of place then None else held heading trust kind level place h
 held_after heading trust kind level place (Dsb pe dsb) n h = last_valid kind level place h
-    >>= (λ w. if cleansed_everywhere heading trust place (n ∷ w.since) then None else Some w.value)
+    >>= (λ w. if emptied heading trust kind level place (n ∷ h) || cleansed_everywhere heading trust place (n ∷ w.since)
+    then None else Some w.value)
 held_after heading trust kind level place _ n h = held heading trust kind level place h
 
 -- ---- one tag at one PE

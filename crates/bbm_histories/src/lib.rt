@@ -22,9 +22,9 @@ pub use steps::{law_held_step, law_pattern_steps, law_tag_steps};
 pub use tags::{law_bases, law_tags};
 pub use tree_steps::{law_childless_step, law_limbo_step, law_node_step};
 pub use trees::{
-    law_attached_tables, law_frozen_view, law_held_changes, law_limbo_is_empty, law_lower_leaves,
-    law_mapped_step, law_one_node, law_one_position, law_proper, law_tables_are_clean,
-    law_tree_step,
+    law_attached_tables, law_emptied_at_once, law_frozen_view, law_held_changes,
+    law_limbo_is_empty, law_lower_leaves, law_mapped_step, law_one_node, law_one_position,
+    law_proper, law_tables_are_clean, law_tree_step,
 };
 pub use value_steps::{law_fresh_step, law_readable_step, law_root_step};
 pub use values::{law_fresh_content, law_frozen, law_window};

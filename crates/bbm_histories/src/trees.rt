@@ -4,7 +4,7 @@ ghost use Rattle.std.specs.Prelude.{◌≡◌, true};
 ghost use Rattle.bbm_events.specs.Heading.{Heading, heading_ok};
 ghost use Rattle.bbm_rules.specs.Claims.{Trust};
 ghost use Rattle.bbm_histories.specs.TreeChanges.{Proper};
-ghost use Rattle.bbm_histories.specs.ContentLaws.{AttachedTables, FrozenView, HeldChanges, LimboIsEmpty, LowerLeaves};
+ghost use Rattle.bbm_histories.specs.ContentLaws.{AttachedTables, EmptiedAtOnce, FrozenView, HeldChanges, LimboIsEmpty, LowerLeaves};
 ghost use Rattle.bbm_histories.specs.ContentLaws.{MappedAfter, TablesAreClean};
 ghost use Rattle.bbm_histories.specs.PositionLaws.{OnePosition, SingleNode, TreeAfter};
 
@@ -47,6 +47,14 @@ pub fn law_one_position()
 /// `HeldChanges`.
 pub fn law_held_changes()
     ensures { (heading : Heading) (trust : Trust) → HeldChanges heading trust }
+{
+    below();
+}
+
+/// In a history that keeps the rules under version 5, a place of a tree that holds something isn't both above at every PE
+/// and a table below which nothing is held. The law is `EmptiedAtOnce`.
+pub fn law_emptied_at_once()
+    ensures { (heading : Heading) (trust : Trust) → EmptiedAtOnce heading trust }
 {
     below();
 }

@@ -11,6 +11,8 @@ use Rattle.bbm_events.specs.Heading.{Heading}
 use Rattle.bbm_events.specs.declared.event.Event.{Event}
 use Rattle.bbm_rules.specs.declared.phase.Phase.{Phase}
 use Rattle.bbm_rules.specs.declared.phase.Phase.TheVariants.{Clean, Live}
+use Rattle.bbm_rules.specs.Held.{emptied}
+use Rattle.bbm_rules.proofs.Common.{◌||◌}
 use Rattle.bbm_rules.specs.Phases.{phase_of}
 use Rattle.bbm_replay_entries.specs.KnownOfEntries.{Known}
 use Rattle.bbm_replay_entries.specs.Marked.{Marked}
@@ -34,9 +36,13 @@ module _ (heading : Heading) (k : Known heading) (h : List Event) (place p : ℕ
   breaking (state.Broken marks) pends since below b m = cc (m.clean p below, m.half p below, m.seen p)
   breaking s pends since below b m = cc
 
+  -- whether nothing of the last valid write is held any more
+  abbrev gone : Node → ValidWrite → Bool
+  gone n w = emptied heading Patterns n.kind n.level place (noted heading Patterns h) || cleansed_everywhere heading Patterns place w.since
+
   -- the phase by the last valid write
   abbrev phase_from : (n : Node) → ValidWrite → Option Phase
-  phase_from n w = cond (cleansed_everywhere heading Patterns place w.since) None
+  phase_from n w = cond (gone n w) None
       (Some (cond (is_valid n.kind n.level (value_of h place)) Live (broken_phase heading Patterns place p w.since)))
 
   abbrev by_node : Option Node → Phase
@@ -52,7 +58,7 @@ module _ (heading : Heading) (k : Known heading) (h : List Event) (place p : ℕ
 
     phase_found : (o : Option ValidWrite) → last_valid n.kind n.level place (noted heading Patterns h) ≡ o → unwrap_or (option_and_then (λ w. phase_from n w) o) Clean ≡ phase_in s p
     phase_found None is = cc (coreless s p (cc (holds, is)))
-    phase_found (Some w) is = by (cleansed_everywhere heading Patterns place w.since) refl
+    phase_found (Some w) is = by (gone n w) refl
       where
         valid : (t : Bool) → is_valid n.kind n.level (value_of h place) ≡ t → is_some (held_now heading h n.kind n.level place) ≡ true
             → cond (is_valid n.kind n.level (value_of h place)) Live (broken_phase heading Patterns place p w.since) ≡ phase_in s p
@@ -60,7 +66,7 @@ module _ (heading : Heading) (k : Known heading) (h : List Event) (place p : ℕ
         valid false v some =
             let broken : is_broken s ≡ true = cc (e.broken, some, v) in cc (v, breaking s pends w.since below broken (e.marks broken w is))
 
-        by : (t : Bool) → cleansed_everywhere heading Patterns place w.since ≡ t → unwrap_or (cond (cleansed_everywhere heading Patterns place w.since) None
+        by : (t : Bool) → gone n w ≡ t → unwrap_or (cond (gone n w) None
             (Some (cond (is_valid n.kind n.level (value_of h place)) Live (broken_phase heading Patterns place p w.since)))) Clean ≡ phase_in s p
         by true t = cc (t, coreless s p (cc (holds, is, t)))
         by false t = cc (t, valid (is_valid n.kind n.level (value_of h place)) refl (cc (is, t)))

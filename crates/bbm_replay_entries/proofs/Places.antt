@@ -5,6 +5,8 @@ use Rattle.bbm_rules.proofs.Common.{true≢false, and_parts, eq-eqb, eqb-true, f
 use Rattle.bbm_rules.proofs.Common.{is_valid, Core, every_pe, every_same, every_wider, Kind, Cover, Patterns, cleansed}
 use Rattle.bbm_rules.proofs.Common.{writes, note, noted, ValidWrite, cleansed_everywhere, held, last_valid}
 use Rattle.bbm_rules.proofs.Common.{last_valid_after, later, Noted, events_of, value_of, arith}
+use Rattle.bbm_rules.proofs.Common.{◌||◌, or_right, or-false, page_of}
+use Rattle.bbm_rules.specs.Held.{emptied}
 use Rattle.std.proofs.Math.Bool.{and-false, and-true}
 use Rattle.bbm_barriers.specs.declared.Dsb.{Dsb as Barrier}
 use Rattle.bbm_lemmas.proofs.Every.{every_none}
@@ -18,7 +20,7 @@ use Rattle.std.proofs.lemmas.Bool.{true_from_ne_false}
 use Rattle.bbm_rules.proofs.HeldLemmas.{holding, older}
 use Rattle.bbm_events.specs.Heading.{Heading}
 use Rattle.bbm_events.specs.declared.event.Event.{Event}
-use Rattle.bbm_events.specs.declared.event.Event.TheVariants.{Write, Dsb}
+use Rattle.bbm_events.specs.declared.event.Event.TheVariants.{Init, Write, Dsb}
 use Rattle.bbm_histories.specs.HistorySteps.{held_after, wrote}
 use Rattle.bbm_replay_entries.specs.EntryEvents.{Heard, OthersStay, touches}
 use Rattle.bbm_replay_entries.specs.KnownOfEntries.{Known}
@@ -250,22 +252,34 @@ module _ (heading : Heading) (k : Known heading) (kind : Kind) (level place : �
   -- ---- a DSB
 
   -- nothing is held after it where nothing was held before
-  none_after : (n : Noted) (o : Option ValidWrite)
-      → option_and_then (λ (w : ValidWrite). cond (cleansed_everywhere heading Patterns place w.since) None (Some w.value)) o ≡ None
-      → option_and_then (λ (w : ValidWrite). cond (cleansed_everywhere heading Patterns place (n ∷ w.since)) None (Some w.value)) o ≡ None
-  none_after n None e = refl
-  none_after n (Some w) e = by (cleansed_everywhere heading Patterns place w.since) refl
+  none_after : (n : Noted) (gone gone' : Bool) → (gone ≡ true → gone' ≡ true) → (o : Option ValidWrite)
+      → option_and_then (λ (w : ValidWrite). cond (gone || cleansed_everywhere heading Patterns place w.since) None (Some w.value)) o ≡ None
+      → option_and_then (λ (w : ValidWrite). cond (gone' || cleansed_everywhere heading Patterns place (n ∷ w.since)) None (Some w.value)) o ≡ None
+  none_after n gone gone' still None e = refl
+  none_after n gone gone' still (Some w) e = by (cleansed_everywhere heading Patterns place w.since) refl gone refl e
     where
-      by : (t : Bool) → cleansed_everywhere heading Patterns place w.since ≡ t
-          → cond (cleansed_everywhere heading Patterns place (n ∷ w.since)) None (Some w.value) ≡ None
-      by true t = cc (every_wider heading.pes (λ p. cleansed heading Patterns place p w.since) (λ p. cleansed heading Patterns place p (n ∷ w.since))
-          (λ p c. cleansed_on heading k place p n w.since c) t)
-      by false t = cc (t, e)
+      by : (t : Bool) → cleansed_everywhere heading Patterns place w.since ≡ t → (d : Bool) → gone ≡ d
+          → cond (d || t) None (Some w.value) ≡ None
+          → cond (gone' || cleansed_everywhere heading Patterns place (n ∷ w.since)) None (Some w.value) ≡ None
+      by true t d g e =
+          ap (λ (c : Bool). cond c None (Some w.value))
+          (or_right gone' (cleansed_everywhere heading Patterns place (n ∷ w.since)) (every_wider heading.pes (λ p. cleansed heading Patterns place p w.since) (λ p. cleansed heading Patterns place p (n ∷ w.since))
+          (λ p c. cleansed_on heading k place p n w.since c) t))
+      by false t true g e =
+          ap (λ (c : Bool). cond c None (Some w.value))
+          (or_left gone' (cleansed_everywhere heading Patterns place (n ∷ w.since)) (still g))
+      by false t false g e = cc
 
   whole_held : (h : List Event) (q : ℕ) (dsb : Barrier) (state : EntryState) (pends : ℕ → Pends) → 0 < heading.pes → is_broken state ≡ false
       → EntryStands heading h kind level place state pends → held_now heading (Dsb q dsb ∷ h) kind level place ≡ held_now heading h kind level place
   whole_held h q dsb state pends pes unbroken s = by (is_some (held_now heading h kind level place)) refl
     where
+      still : emptied heading Patterns kind level place (noted heading Patterns h) ≡ true
+          → emptied heading Patterns kind level place (noted heading Patterns (Dsb q dsb ∷ h)) ≡ true
+      still gone = k.held.emptied_stays kind level place (note heading Patterns (noted heading Patterns h) (Dsb q dsb)) (noted heading Patterns h)
+          (λ p v is. let apart : Dsb q dsb ≡ Write p place v = is in cc)
+          (λ p is. let apart : Dsb q dsb ≡ Init p (page_of place) = is in cc) gone
+
       by : (t : Bool) → is_some (held_now heading h kind level place) ≡ t
           → held_now heading (Dsb q dsb ∷ h) kind level place ≡ held_now heading h kind level place
       by true t =
@@ -274,7 +288,29 @@ module _ (heading : Heading) (k : Known heading) (kind : Kind) (level place : �
       by false t =
           let none : held_now heading h kind level place ≡ None = none_is (held_now heading h kind level place) t in
           k.held_step kind level place (note heading Patterns (noted heading Patterns h) (Dsb q dsb)) (noted heading Patterns h) pes
-          ∙ (none_after (note heading Patterns (noted heading Patterns h) (Dsb q dsb)) (last_valid kind level place (noted heading Patterns h)) none ∙ sym none)
+          ∙ (none_after (note heading Patterns (noted heading Patterns h) (Dsb q dsb))
+          (emptied heading Patterns kind level place (noted heading Patterns h))
+          (emptied heading Patterns kind level place (noted heading Patterns (Dsb q dsb ∷ h))) still
+          (last_valid kind level place (noted heading Patterns h)) none ∙ sym none)
+
+  -- where it is emptied nothing is held, and a clean state stands for it
+  pub empties_stands : (h : List Event) (state : EntryState) (pends : ℕ → Pends)
+      → emptied heading Patterns kind level place (noted heading Patterns h) ≡ true → core_in state ≡ None
+      → is_broken state ≡ false → ((i : ℕ) → IsIdle (pends i)) → EntryStands heading h kind level place state pends
+  empties_stands h state pends gone core unbroken idle =
+      let none : held_now heading h kind level place ≡ None = nothing (last_valid kind level place (noted heading Patterns h)) in
+      record {
+        core = core ∙ sym (ap (option_and_then (core_of kind level)) none);
+        broken = unbroken ∙ sym (ap (λ (o : Option ℕ). is_some o && not (is_valid kind level (value_of h place))) none);
+        marks = λ broken. absurd (true≢false (sym broken ∙ unbroken));
+        idle = λ t. idle;
+      }
+    where
+      nothing : (o : Option ValidWrite) → option_and_then (λ (w : ValidWrite). cond (emptied heading Patterns kind level place (noted heading Patterns h)
+          || cleansed_everywhere heading Patterns place w.since) None (Some w.value)) o ≡ None
+      nothing None = refl
+      nothing (Some w) = ap (λ (c : Bool). cond c None (Some w.value))
+          (or_left (emptied heading Patterns kind level place (noted heading Patterns h)) (cleansed_everywhere heading Patterns place w.since) gone)
 
   pub whole_stands : (h : List Event) (q : ℕ) (dsb : Barrier) (old new : EntryState) (pends pends' : ℕ → Pends) → 0 < heading.pes → is_broken old ≡ false
       → core_in new ≡ core_in old → is_broken new ≡ false → ((i : ℕ) → IsIdle (pends' i))
@@ -301,7 +337,7 @@ module _ (heading : Heading) (k : Known heading) (kind : Kind) (level place : �
       let some : is_some (held_now heading h kind level place) ≡ true
       = (and_parts (is_some (held_now heading h kind level place)) (not (is_valid kind level (value_of h place))) (sym s.broken ∙ broken)).0 in
       let x : (value : ℕ) × (held_now heading h kind level place ≡ Some value) = some_is (held_now heading h kind level place) some in
-      let o = holding heading Patterns place (last_valid kind level place (noted heading Patterns h)) x.0 x.1 in
+      let o = holding heading Patterns place (emptied heading Patterns kind level place (noted heading Patterns h)) (last_valid kind level place (noted heading Patterns h)) x.0 x.1 in
       (o.write, o.is, x.1 ∙ ap Some (sym o.same))
 
   cond_core : (t : Bool) (v : ℕ) → option_and_then (core_of kind level) (cond t None (Some v)) ≡ cond t None (core_of kind level v)
@@ -309,8 +345,9 @@ module _ (heading : Heading) (k : Known heading) (kind : Kind) (level place : �
 
   pub dsb_stands : (h : List Event) (q : ℕ) (dsb : Barrier) (old mid new : EntryState) (pends pends' : ℕ → Pends) → 0 < heading.pes
       → Heard heading old q dsb mid → Completed mid (pends q) dsb heading.pes new (pends' q) → OthersStay new q pends pends'
+      → emptied heading Patterns kind level place (noted heading Patterns (Dsb q dsb ∷ h)) ≡ false
       → EntryStands heading h kind level place old pends → EntryStands heading (Dsb q dsb ∷ h) kind level place new pends'
-  dsb_stands h q dsb old mid new pends pends' pes heard d others s = by (is_broken old) refl
+  dsb_stands h q dsb old mid new pends pends' pes heard d others unemptied s = by (is_broken old) refl
     where
       e : Event
       e = Dsb q dsb
@@ -349,9 +386,16 @@ module _ (heading : Heading) (k : Known heading) (kind : Kind) (level place : �
           = every_same heading.pes (clean_after mid (pends q) dsb) (λ p. cleansed heading Patterns place p (n ∷ w.since))
           (clean_now heading k place n w.since q dsb refl old mid pends mids (s.marks t w has.1)) in
           let holds : held_now heading (e ∷ h) kind level place ≡ cond (cleansed_everywhere heading Patterns place (n ∷ w.since)) None (Some w.value)
-          = cc has.1 in
+          = ap (option_and_then (λ (x : ValidWrite). cond (emptied heading Patterns kind level place (noted heading Patterns (e ∷ h))
+          || cleansed_everywhere heading Patterns place x.since) None (Some x.value))) (ap (later n) has.1)
+          ∙ ap (λ (b : Bool). cond b None (Some w.value))
+          (ap (λ (g : Bool). g || cleansed_everywhere heading Patterns place (n ∷ w.since)) unemptied) in
           let core : core_in new ≡ core_now heading (e ∷ h) kind level place
-          = cc (d.core, all, mids.core, s.core, has.2, cond_core (cleansed_everywhere heading Patterns place (n ∷ w.since)) w.value, holds) in
+          = d.core ∙ (ap (λ (b : Bool). cond b None (core_in mid)) all
+          ∙ (ap (λ (o : Option Core). cond (cleansed_everywhere heading Patterns place (n ∷ w.since)) None o)
+          (mids.core ∙ (s.core ∙ ap (option_and_then (core_of kind level)) has.2))
+          ∙ (sym (cond_core (cleansed_everywhere heading Patterns place (n ∷ w.since)) w.value)
+          ∙ sym (ap (option_and_then (core_of kind level)) holds)))) in
           let invalid : not (is_valid kind level (value_of h place)) ≡ true
           = (and_parts (is_some (held_now heading h kind level place)) (not (is_valid kind level (value_of h place))) (sym s.broken ∙ t)).1 in
           let breaks : is_broken new ≡ is_some (core_in new)

@@ -4,7 +4,7 @@ use Rattle.std.specs.Option.{option_map_or}
 use Rattle.bbm_descriptor.specs.Descriptor.{core_of, desc_of, desc_with, differ, needs}
 use Rattle.bbm_descriptor.specs.declared.desc.Core.{Core}
 use Rattle.bbm_entry_state.specs.EntryCalls.{Completed, Noted, Written}
-use Rattle.bbm_entry_state.specs.EntryStanding.{KeepsPends}
+use Rattle.bbm_entry_state.specs.EntryStanding.{IsIdle, KeepsPends}
 use Rattle.bbm_entry_state.specs.Points.{core_in, is_broken, waits}
 use Rattle.bbm_entry_state.specs.declared.pending.Pends.{Pends}
 use Rattle.bbm_entry_state.specs.declared.state.EntryState.{EntryState}
@@ -17,6 +17,7 @@ use Rattle.bbm_histories.specs.TreeChanges.{Attaches}
 use Rattle.bbm_rules.specs.Broken.{keeps}
 use Rattle.bbm_rules.specs.Claims.Trust.{Patterns}
 use Rattle.bbm_rules.specs.Covers.{cover_at, noted}
+use Rattle.bbm_rules.specs.Held.{emptied}
 use Rattle.bbm_rules.specs.Lists.{if_so, ◌>>=◌}
 use Rattle.bbm_rules.specs.Pages.{is_fresh}
 use Rattle.bbm_rules.specs.Phases.{is_restless, phase_of}
@@ -66,14 +67,18 @@ EntryWrite heading = (h : List Event) (kind : Kind) (level place pe value : ℕ)
     → EntryStands heading (Write pe place value ∷ h) kind level place new pends'
 
 -- After a DSB of a PE the state of a place is that of the two calls, and what waits for the PE is what the second one
--- leaves; what waits for each other stays where the place is still broken, and else nothing waits. A place that isn't
--- broken keeps its state.
+-- leaves; what waits for each other stays where the place is still broken, and else nothing waits. That is so where the
+-- DSB doesn't empty the place; where it does, a clean state stands for it. A place that isn't broken keeps its state.
 pub record EntryDsb (heading : Heading) : Type 0 where
   pub calls : (h : List Event) (kind : Kind) (level place q : ℕ) (dsb : Barrier) (old mid new : EntryState)
       (pends pends' : ℕ → Pends) → 0 < heading.pes → Heard heading old q dsb mid
       → Completed mid (pends q) dsb heading.pes new (pends' q) → OthersStay new q pends pends'
+      → emptied heading Patterns kind level place (noted heading Patterns (Dsb q dsb ∷ h)) ≡ false
       → EntryStands heading h kind level place old pends
       → EntryStands heading (Dsb q dsb ∷ h) kind level place new pends'
+  pub empties : (h : List Event) (kind : Kind) (level place : ℕ) (state : EntryState) (pends : ℕ → Pends)
+      → emptied heading Patterns kind level place (noted heading Patterns h) ≡ true → core_in state ≡ None
+      → is_broken state ≡ false → ((i : ℕ) → IsIdle (pends i)) → EntryStands heading h kind level place state pends
   pub whole : (h : List Event) (kind : Kind) (level place q : ℕ) (dsb : Barrier) (state : EntryState)
       (pends : ℕ → Pends) → 0 < heading.pes → is_broken state ≡ false
       → EntryStands heading h kind level place state pends

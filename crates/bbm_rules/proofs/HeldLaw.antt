@@ -8,6 +8,8 @@ use Rattle.bbm_rules.proofs.Common.{and-false}
 use Rattle.bbm_events.specs.Heading.{Heading}
 use Rattle.bbm_events.specs.declared.event.Event.{Event}
 use Rattle.bbm_events.specs.declared.event.Event.TheVariants.{Init, Write}
+use Rattle.bbm_rules.proofs.Emptied.{emptied_seen, ends_last, last_goes_on}
+use Rattle.bbm_rules.specs.Held.{emptied}
 use Rattle.bbm_rules.proofs.HeldLemmas.{Holding, Older, holding, older as older_of, valid_is_odd}
 use Rattle.bbm_rules.proofs.HeldLemmas.{uncleansed as left_held}
 use Rattle.bbm_rules.proofs.PatternLaw.{cleansed_complete, cleansed_sound, seen_sound}
@@ -41,9 +43,7 @@ not_everywhere (suc n) p test below e = by (p == n) refl (λ lower. not_everywhe
 module _ (kind : Kind) (level place : ℕ) where
   -- whether no value that was written before is the last valid one any more
   abbrev ends : Event → Bool
-  ends (Write pe at value) = at == place && is_valid kind level value
-  ends (Init pe page) = page == page_of place
-  ends _ = false
+  ends e = ends_last kind level place e
 
   ends_write : (pe value : ℕ) → is_valid kind level value ≡ true → ends (Write pe place value) ≡ true
   ends_write pe value v = and_from (place == place) (is_valid kind level value) (eq-eqb place place refl) v
@@ -53,10 +53,7 @@ module _ (kind : Kind) (level place : ℕ) where
 
   goes_on : (e : Event) (n : Noted) (found : Option ValidWrite) → ends e ≡ false
       → last_valid_after kind level place e n found ≡ later n found
-  goes_on (Write pe at value) n found k =
-      ap (λ (b : Bool). cond b (Some (record { value = value; since = [] })) (later n found)) k
-  goes_on (Init pe page) n found k = ap (λ (b : Bool). cond b None (later n found)) k
-  goes_on e n found k = refl
+  goes_on e n found k = last_goes_on kind level place e n found k
 
   -- a write that ends, and nothing that ends after it
   record LastWrite (h : List Noted) (w : ValidWrite) : Type 0 where
@@ -293,8 +290,8 @@ module _ (heading : Heading) (trust : Trust) (kind : Kind) (level place : ℕ) w
   pub held_sound : (h : List Noted) (value : ℕ) → held heading trust kind level place h ≡ Some value
       → Holds heading trust kind level place h value
   held_sound h value e =
-      let k : Holding heading trust place (last_valid kind level place h) value
-      = holding heading trust place (last_valid kind level place h) value e in
+      let k : Holding heading trust place (emptied heading trust kind level place h) (last_valid kind level place h) value
+      = holding heading trust place (emptied heading trust kind level place h) (last_valid kind level place h) value e in
       let l : IsLastValid kind level place h k.write = last_sound kind level place h k.write k.is in
       let p = uncleansed_at heading.pes (λ (p : ℕ). cleansed heading trust place p k.write.since) k.still in
       subst (λ (x : ℕ). Holds heading trust kind level place h x) k.same (record {
@@ -303,16 +300,18 @@ module _ (heading : Heading) (trust : Trust) (kind : Kind) (level place : ℕ) w
         p = p.0;
         is_pe = p.1;
         uncleansed = λ c. true≢false (sym (cleansed_complete heading trust place p.0 k.write.since c) ∙ p.2);
+        unemptied = k.stays;
       })
 
   pub held_complete : (h : List Noted) (value : ℕ) → Holds heading trust kind level place h value
       → held heading trust kind level place h ≡ Some value
   held_complete h value k =
-      ap (option_and_then (left_held heading trust place)) (last_complete kind level place h (record { value = value; since = k.since })
-      k.last_write)
+      ap (option_and_then (left_held heading trust place (emptied heading trust kind level place h)))
+      (last_complete kind level place h (record { value = value; since = k.since }) k.last_write)
       ∙ ap (λ (b : Bool). cond b None (Some value))
+      (or_from (emptied heading trust kind level place h) (every_pe heading.pes (λ (p : ℕ). cleansed heading trust place p k.since)) k.unemptied
       (not_everywhere heading.pes k.p (λ (p : ℕ). cleansed heading trust place p k.since) k.is_pe
-      (by (cleansed heading trust place k.p k.since) refl))
+      (by (cleansed heading trust place k.p k.since) refl)))
     where
       by : (b : Bool) → cleansed heading trust place k.p k.since ≡ b → b ≡ false
       by true c = absurd (k.uncleansed (cleansed_sound heading trust place k.p k.since c))
@@ -326,13 +325,25 @@ module _ (heading : Heading) (trust : Trust) (kind : Kind) (level place : ℕ) w
       by false c = refl
       by true c = absurd (true≢false (sym (cleansed_is_seen heading trust place p since c) ∙ never_seen heading place p since none))
 
+  -- an emptied place was seen, so there was a write
+  live_unemptied : (h : List Noted) → 0 < heading.pes → (l : Live kind level place h)
+      → emptied heading trust kind level place h ≡ false
+  live_unemptied h some_pes l = by (emptied heading trust kind level place h) refl
+    where
+      by : (b : Bool) → emptied heading trust kind level place h ≡ b → b ≡ false
+      by false c = refl
+      by true c = absurd (true≢false (sym (emptied_seen heading trust kind level place h l.w 0 some_pes c l.is)
+          ∙ never_seen heading place 0 l.w.since l.unwritten))
+
   pub live_is_held : (h : List Noted) → 0 < heading.pes → is_valid kind level (value_of (events_of h) place) ≡ true
       → held heading trust kind level place h ≡ Some (value_of (events_of h) place)
   live_is_held h some_pes v =
       let l : Live kind level place h = live kind level place h v in
-      ap (option_and_then (left_held heading trust place)) l.is
+      ap (option_and_then (left_held heading trust place (emptied heading trust kind level place h))) l.is
       ∙ (ap (λ (b : Bool). cond b None (Some l.w.value))
-      (not_everywhere heading.pes 0 (λ (p : ℕ). cleansed heading trust place p l.w.since) some_pes (uncleansed l.w.since 0 l.unwritten))
+      (or_from (emptied heading trust kind level place h) (every_pe heading.pes (λ (p : ℕ). cleansed heading trust place p l.w.since))
+      (live_unemptied h some_pes l)
+      (not_everywhere heading.pes 0 (λ (p : ℕ). cleansed heading trust place p l.w.since) some_pes (uncleansed l.w.since 0 l.unwritten)))
       ∙ ap Some l.same)
 
 pub valid_if_held : (heading : Heading) (trust : Trust) (kind : Kind) (level place : ℕ) (h : List Noted) (value : ℕ)

@@ -1,11 +1,12 @@
 -- The last valid write of a place, and what it leaves held.
-use Rattle.bbm_rules.proofs.Common.{◌≡◌, ℕ, ◌%◌, ◌&&◌, Bool, true, false, cond, ◌⊎◌, ◌==◌, List, [], ◌∷◌, Option, Some}
+use Rattle.bbm_rules.proofs.Common.{◌≡◌, ℕ, ◌%◌, ◌&&◌, ◌||◌, or_parts, Bool, true, false, cond, ◌⊎◌, ◌==◌, List, [], ◌∷◌, Option, Some}
 use Rattle.bbm_rules.proofs.Common.{None, option_and_then, if◌then◌else◌, refl, sym, ◌∙◌, ap, subst, inl, inr, arith}
 use Rattle.bbm_rules.proofs.Common.{true≢false, and_parts, eq-eqb, eqb-true, Kind, Form, form_01, form_11, is_valid}
 use Rattle.bbm_rules.proofs.Common.{valid_form, type_bits, with_keeps, In, Trust, ValidWrite, cleansed_everywhere, held}
 use Rattle.bbm_rules.proofs.Common.{last_valid, last_valid_after, later, Noted, events_of, page_of, written_places}
 use Rattle.bbm_rules.proofs.Common.{with_has}
 use Rattle.bbm_events.specs.Heading.{Heading}
+use Rattle.bbm_rules.specs.Held.{emptied, held_unless}
 use Rattle.bbm_events.specs.declared.event.Event.{Event}
 use Rattle.bbm_events.specs.declared.event.Event.TheVariants.{Init, Write}
 
@@ -92,28 +93,38 @@ valid_is_odd kind level value v =
 -- ---- what the place holds
 
 module _ (heading : Heading) (trust : Trust) (place : ℕ) where
-  -- what a valid write leaves held
-  abbrev pub uncleansed : ValidWrite → Option ℕ
-  uncleansed w = if cleansed_everywhere heading trust place w.since then None else Some w.value
+  module _ (gone : Bool) where
+    -- what a valid write leaves held
+    abbrev pub uncleansed : ValidWrite → Option ℕ
+    uncleansed w = if gone || cleansed_everywhere heading trust place w.since then None else Some w.value
 
-  -- the valid write whose value a place holds
-  pub record Holding (o : Option ValidWrite) (value : ℕ) : Type 0 where
-    pub write : ValidWrite
-    pub is : o ≡ Some write
-    pub same : write.value ≡ value
-    pub still : cleansed_everywhere heading trust place write.since ≡ false
+    -- the valid write whose value a place holds
+    pub record Holding (o : Option ValidWrite) (value : ℕ) : Type 0 where
+      pub write : ValidWrite
+      pub is : o ≡ Some write
+      pub same : write.value ≡ value
+      pub still : cleansed_everywhere heading trust place write.since ≡ false
+      pub stays : gone ≡ false
 
-  holding_by : (w : ValidWrite) (value : ℕ) (b : Bool) → cleansed_everywhere heading trust place w.since ≡ b
-      → cond b None (Some w.value) ≡ Some value → Holding (Some w) value
-  holding_by w value true k e = cc
-  holding_by w value false k e = record { write = w; is = refl; same = cc; still = k }
+    holding_by : (w : ValidWrite) (value : ℕ) (b : Bool) → (gone || cleansed_everywhere heading trust place w.since) ≡ b
+        → cond b None (Some w.value) ≡ Some value → Holding (Some w) value
+    holding_by w value true k e = cc
+    holding_by w value false k e =
+        let parts = or_parts gone (cleansed_everywhere heading trust place w.since) k in
+        record { write = w; is = refl; same = cc; still = parts.1; stays = parts.0 }
 
-  pub holding : (o : Option ValidWrite) (value : ℕ) → option_and_then uncleansed o ≡ Some value → Holding o value
-  holding None value e = cc
-  holding (Some w) value e = holding_by w value (cleansed_everywhere heading trust place w.since) refl e
+    pub holding : (o : Option ValidWrite) (value : ℕ) → option_and_then uncleansed o ≡ Some value → Holding o value
+    holding None value e = cc
+    holding (Some w) value e = holding_by w value (gone || cleansed_everywhere heading trust place w.since) refl e
+
+  -- a place that holds something was written
+  pub unless_is_written : (gone : Bool) (kind : Kind) (level : ℕ) (h : List Noted) (value : ℕ)
+      → held_unless heading trust gone kind level place h ≡ Some value → In (written_places (events_of h)) place
+  unless_is_written gone kind level h value e =
+      let k : Holding gone (last_valid kind level place h) value = holding gone (last_valid kind level place h) value e in
+      last_is_written kind level place h k.write k.is
 
   pub held_is_written : (kind : Kind) (level : ℕ) (h : List Noted) (value : ℕ)
       → held heading trust kind level place h ≡ Some value → In (written_places (events_of h)) place
   held_is_written kind level h value e =
-      let k : Holding (last_valid kind level place h) value = holding (last_valid kind level place h) value e in
-      last_is_written kind level place h k.write k.is
+      unless_is_written (emptied heading trust kind level place h) kind level h value e

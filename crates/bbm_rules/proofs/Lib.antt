@@ -34,9 +34,11 @@ pub mod ListLemmas
 pub mod RuleLemmas
 pub mod PhaseLaw
 pub mod HeldLemmas
+pub mod Emptied
 pub mod HeldLaw
 pub mod TreeLemmas
 pub mod TreeLaw
+pub mod EmptiedLaw
 pub mod AttachLaw
 pub mod MappedLaw
 pub mod ReadsLaw

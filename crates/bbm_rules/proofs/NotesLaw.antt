@@ -5,6 +5,7 @@ use Rattle.bbm_rules.proofs.Common.{noted, Noted, events_of}
 use Rattle.bbm_events.specs.Heading.{Heading}
 use Rattle.bbm_events.specs.declared.event.Event.{Event}
 use Rattle.bbm_rules.proofs.OpenLaw.{head_of, tail_of}
+use Rattle.bbm_rules.specs.Covers.{top_at}
 
 module _ (heading : Heading) (trust : Trust) where
   pub events_noted : (h : List Event) → events_of (noted heading trust h) ≡ h
@@ -40,3 +41,8 @@ module _ (heading : Heading) (trust : Trust) where
   notes_given h newer older n split =
       let r = older_is_noted h newer older n split in
       (r.0, ap (λ (x : Noted). x.covers) r.1, ap (λ (x : Noted). x.position) r.1)
+
+  pub tops_given : (h : List Event) (newer older : List Noted) (n : Noted)
+      → noted heading trust h ≡ newer ++ n ∷ older → n.tops ≡ top_at heading trust older n.event
+  tops_given h newer older n split =
+      let r = older_is_noted h newer older n split in ap (λ (x : Noted). x.tops) r.1

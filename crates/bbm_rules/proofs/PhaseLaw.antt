@@ -3,7 +3,8 @@ use Rattle.bbm_rules.proofs.Common.{◌≡◌, ◌≢◌, ℕ, Bool, true, false
 use Rattle.bbm_rules.proofs.Common.{is_valid, needs, Event, Write, breaks, Trust, cleansed, half, seen, noted}
 use Rattle.bbm_rules.proofs.Common.{ValidWrite, cleansed_everywhere, last_valid, ◌>>=◌, if_so, broken_phase, page_of}
 use Rattle.bbm_rules.proofs.Common.{Node, node_of, value_of}
-use Rattle.std.specs.Prelude.{List, if◌then◌else◌}
+use Rattle.std.specs.Prelude.{List, ◌||◌, if◌then◌else◌}
+use Rattle.bbm_rules.specs.Held.{emptied}
 use Rattle.bbm_events.specs.Heading.{Heading}
 use Rattle.bbm_rules.specs.declared.phase.Phase.{Phase}
 use Rattle.bbm_rules.specs.declared.phase.Phase.TheVariants.{Clean, Live, Broken, Seen, Half, Cleansed}
@@ -37,21 +38,21 @@ module _ (valid : Node → Bool) (phase : ValidWrite → Phase) (dirty : (w : Va
       by true k = cc
       by false k = live_or (valid n) (phase w) (dirty w)
 
-  of_node : (on : Option Node) (write : Node → Option ValidWrite) (cleansed_at : ValidWrite → Bool)
+  of_node : (on : Option Node) (write : Node → Option ValidWrite) (cleansed_at : Node → ValidWrite → Bool)
       (test : Node → ℕ → Bool) (place at : ℕ)
-      → (on >>= (λ n. (write n >>= (λ w. if cleansed_at w then None else Some w.value)) >>= (λ old. if_so (test n old) place))) ≡ Some at
-      → (place ≡ at) × (unwrap_or (on >>= (λ n. write n >>= (λ w. if cleansed_at w then None
+      → (on >>= (λ n. (write n >>= (λ w. if cleansed_at n w then None else Some w.value)) >>= (λ old. if_so (test n old) place))) ≡ Some at
+      → (place ≡ at) × (unwrap_or (on >>= (λ n. write n >>= (λ w. if cleansed_at n w then None
       else Some (if valid n then Live else phase w)))) Clean ≢ Clean)
   of_node None write cleansed_at test place at k = cc
   of_node (Some n) write cleansed_at test place at k =
-      by (write n >>= (λ w. if cleansed_at w then None else Some w.value)) refl k
+      by (write n >>= (λ w. if cleansed_at n w then None else Some w.value)) refl k
     where
-      by : (held : Option ℕ) → (write n >>= (λ w. if cleansed_at w then None else Some w.value)) ≡ held
+      by : (held : Option ℕ) → (write n >>= (λ w. if cleansed_at n w then None else Some w.value)) ≡ held
           → (held >>= (λ old. if_so (test n old) place)) ≡ Some at
-          → (place ≡ at) × (unwrap_or (write n >>= (λ w. if cleansed_at w then None
+          → (place ≡ at) × (unwrap_or (write n >>= (λ w. if cleansed_at n w then None
           else Some (if valid n then Live else phase w))) Clean ≢ Clean)
       by None e k = cc
-      by (Some old) e k = (if_at (test n old) place at k, of_write (write n) cleansed_at old n e)
+      by (Some old) e k = (if_at (test n old) place at k, of_write (write n) (cleansed_at n) old n e)
 
 module _ (heading : Heading) (trust : Trust) where
   dirty_at : (place p : ℕ) (w : ValidWrite) → broken_phase heading trust place p w.since ≢ Clean
@@ -66,7 +67,7 @@ module _ (heading : Heading) (trust : Trust) where
       (λ w. broken_phase heading trust place p w.since) (dirty_at place p)
       (node_of heading trust (noted heading trust h) (page_of place))
       (λ n. last_valid n.kind n.level place (noted heading trust h))
-      (λ w. cleansed_everywhere heading trust place w.since)
+      (λ n w. emptied heading trust n.kind n.level place (noted heading trust h) || cleansed_everywhere heading trust place w.since)
       (λ n old. needs n.kind n.level old value) place at k in
       subst (λ (a : ℕ). phase_of heading trust h a p ≢ Clean) found.0 found.1
   by_event h e at p k = cc

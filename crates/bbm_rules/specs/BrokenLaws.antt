@@ -5,7 +5,7 @@ use Rattle.bbm_rules.specs.Prelude.{Event, Heading, Ttbr0, Write}
 use Rattle.bbm_rules.specs.Attach.{End, attached_by, attached_from}
 use Rattle.bbm_rules.specs.Broken.{breaks, keeps}
 use Rattle.bbm_rules.specs.Claims.{Trust}
-use Rattle.bbm_rules.specs.Covers.{cover_at, is_global, noted}
+use Rattle.bbm_rules.specs.Covers.{cover_at, top_at, is_global, noted}
 use Rattle.bbm_rules.specs.Mapped.{is_clean, table_pages}
 use Rattle.bbm_rules.specs.Notes.{Noted, events_of}
 use Rattle.bbm_rules.specs.Places.{page_of}
@@ -56,6 +56,8 @@ pub record NotesOfOlder (heading : Heading) (trust : Trust) : Type 0 where
   pub each : (h : List Event) (newer older : List Noted) (n : Noted) → noted heading trust h ≡ newer ++ n ∷ older
       → (older ≡ noted heading trust (events_of older)) × (n.covers ≡ cover_at heading trust older n.event)
       × (n.position ≡ suc (length older))
+  pub tops : (h : List Event) (newer older : List Noted) (n : Noted) → noted heading trust h ≡ newer ++ n ∷ older
+      → n.tops ≡ top_at heading trust older n.event
 
 -- The annotated history is the history: with each event its notes, and no other event.
 abbrev pub NotesKeepEvents : Heading → Trust → Type 0

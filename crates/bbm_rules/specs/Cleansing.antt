@@ -3,7 +3,7 @@
 -- what came before the event that it found; so the order of the events is that of the nesting.
 -- Source: Arm ARM (DDI 0487), "Using break-before-make when updating translation table entries", and "TLB
 -- maintenance instructions".
-use Rattle.std.specs.Prelude.{ℕ, Bool, true, false, ◌&&◌, ◌||◌, ◌==◌, List}
+use Rattle.std.specs.Prelude.{ℕ, Bool, true, false, ◌&&◌, ◌||◌, ◌==◌, List, map}
 use Rattle.bbm_tlbi_scope.specs.declared.entry.Cover.{Cover}
 use Rattle.bbm_tlbi_scope.specs.declared.entry.Cover.TheVariants.{Half, Second, Full}
 pub use Rattle.bbm_tlbi_scope.specs.SameCover.{same_cover}
@@ -11,7 +11,7 @@ use Rattle.bbm_rules.specs.Prelude.{Barrier, Heading, Event, Write, Dsb}
 use Rattle.bbm_events.specs.declared.claim.Claim.TheVariants.{Place, Two}
 use Rattle.bbm_rules.specs.Claims.{Trust, allows}
 use Rattle.bbm_rules.specs.Lists.{any, some}
-use Rattle.bbm_rules.specs.Notes.{Noted, event_of}
+use Rattle.bbm_rules.specs.Notes.{Noted, event_of, topped}
 use Rattle.bbm_rules.specs.Reach.{Issued, completes, reaches, unanswered}
 use Rattle.bbm_rules.specs.Values.{publishes_to}
 
@@ -71,3 +71,8 @@ module _ (heading : Heading) (trust : Trust) (place p : ℕ) where
 
   abbrev pub cleansed : List Noted → Bool
   cleansed since = answered_where full_step since || answered_where second_step since
+
+  -- Above: no TLB of p keeps an entry that ends in the last valid value of the place any more. The patterns are those of
+  -- cleansed, with the top cover of each TLBI in the place of its cover. Entries that end below a table may still be kept.
+  abbrev pub above : List Noted → Bool
+  above since = cleansed (map topped since)

@@ -6,7 +6,7 @@ use Rattle.bbm_descriptor.specs.declared.desc.Desc.TheVariants.{Leaf}
 use Rattle.bbm_tlbi_scope.specs.declared.entry.Cover.{Cover}
 use Rattle.bbm_tlbi_scope.specs.declared.entry.Cover.TheVariants.{None as NoCover}
 use Rattle.bbm_tlbi_scope.specs.declared.entry.PlaceView.{PlaceView}
-use Rattle.bbm_tlbi_scope.specs.ScopeCovers.{cover_of}
+use Rattle.bbm_tlbi_scope.specs.ScopeCovers.{cover_of, top_of}
 use Rattle.bbm_rules.specs.Prelude.{Heading, Event, Tlbi}
 use Rattle.bbm_rules.specs.Claims.{Trust}
 use Rattle.bbm_rules.specs.Lists.{◌>>=◌}
@@ -50,9 +50,19 @@ module _ (heading : Heading) (trust : Trust) where
       Some (cover_of scope (vmid_of heading (events_of h) pe) view)) NoCover
     cover_at _ place = NoCover
 
+    -- Top cover: how far it covers an entry that ends in what the place holds. It is the cover of the place, but a held
+    -- table is seen as if it were childless: the interval of the scope has to meet its region, and not to name all of
+    -- it. So a TLBI for the last level alone, or with a level hint, is no top cover of a table.
+    abbrev pub top_at : Event → ℕ → Cover
+    top_at (Tlbi pe op xt) place = unwrap_or (do
+      scope ← named_scope heading (events_of h) pe op xt
+      view ← view_at place
+      Some (top_of scope (vmid_of heading (events_of h) pe) view)) NoCover
+    top_at _ place = NoCover
+
     -- the event with its notes, by those of the events before it
     abbrev pub note : Event → Noted
-    note e = record { event = e; covers = cover_at e; position = suc (length h) }
+    note e = record { event = e; covers = cover_at e; tops = top_at e; position = suc (length h) }
 
   -- The annotated history: each event with how far it covers each place.
   abbrev pub noted : List Event → List Noted

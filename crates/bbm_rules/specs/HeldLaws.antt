@@ -1,13 +1,14 @@
 -- What the laws of seen, half, cleansed and held state: that what computes says the same as a sentence. Source:
 -- project's own choice.
-use Rattle.std.specs.Prelude.{◌≡◌, ℕ, ◌%◌, ◌<◌, true, List, ◌∷◌, ◌++◌, Some}
+use Rattle.std.specs.Prelude.{◌≡◌, ℕ, ◌%◌, ◌<◌, ◌⊎◌, true, false, List, ◌∷◌, ◌++◌, Some}
 use Rattle.bbm_descriptor.specs.Descriptor.{is_valid}
-use Rattle.bbm_rules.specs.Prelude.{Heading, Kind, Write}
+use Rattle.bbm_rules.specs.Prelude.{Barrier, Heading, Kind, Init, Write, Dsb}
 use Rattle.bbm_rules.specs.Claims.{Trust}
 use Rattle.bbm_rules.specs.Cleansing.{cleansed, half, seen}
-use Rattle.bbm_rules.specs.Held.{ValidWrite, held, last_valid}
+use Rattle.bbm_rules.specs.Held.{ValidWrite, emptied, held, last_valid}
 use Rattle.bbm_rules.specs.Notes.{Noted, events_of}
-use Rattle.bbm_rules.specs.PatternSentences.{Cleansed, Holds, IsHalf, IsLastValid, Seen}
+use Rattle.bbm_rules.specs.PatternSentences.{Cleansed, Emptied, EmptyAbove, Holds, IsHalf, IsLastValid, Seen}
+use Rattle.bbm_rules.specs.Places.{page_of}
 use Rattle.bbm_rules.specs.Values.{value_of}
 
 -- A place is seen exactly where some write of it is published to the PE.
@@ -43,8 +44,10 @@ pub record LastValidBySentence : Type 0 where
   pub odd : (kind : Kind) (level value : ℕ) → is_valid kind level value ≡ true → value % 2 ≡ 1
 
 -- A place holds a value exactly where the value was written and is valid, and since then there was no valid write of
--- the place and no init of its page, and at some PE the place isn't cleansed. So what is held is valid; and where the
--- present value is valid, that is what is held.
+-- the place and no init of its page, and at some PE the place isn't cleansed, and it isn't emptied. So what is held is
+-- valid; and where the present value is valid, that is what is held. A place is emptied exactly where the sentence says
+-- so. An emptied place is seen at every PE since its last valid write; it comes to be emptied by a DSB after which it is
+-- empty and above; and it stays emptied until a valid write of it or an init of its page.
 pub record HeldBySentence (heading : Heading) (trust : Trust) : Type 0 where
   pub sound : (kind : Kind) (level place : ℕ) (h : List Noted) (value : ℕ)
       → held heading trust kind level place h ≡ Some value → Holds heading trust kind level place h value
@@ -55,3 +58,17 @@ pub record HeldBySentence (heading : Heading) (trust : Trust) : Type 0 where
   pub live : (kind : Kind) (level place : ℕ) (h : List Noted) → 0 < heading.pes
       → is_valid kind level (value_of (events_of h) place) ≡ true
       → held heading trust kind level place h ≡ Some (value_of (events_of h) place)
+  pub emptied_sound : (kind : Kind) (level place : ℕ) (h : List Noted) → emptied heading trust kind level place h ≡ true
+      → Emptied heading trust kind level place h
+  pub emptied_complete : (kind : Kind) (level place : ℕ) (h : List Noted)
+      → Emptied heading trust kind level place h → emptied heading trust kind level place h ≡ true
+  pub emptied_seen : (kind : Kind) (level place : ℕ) (h : List Noted) (w : ValidWrite) (p : ℕ) → p < heading.pes
+      → emptied heading trust kind level place h ≡ true → last_valid kind level place h ≡ Some w
+      → seen heading place p w.since ≡ true
+  pub emptied_step : (kind : Kind) (level place : ℕ) (n : Noted) (h : List Noted)
+      → emptied heading trust kind level place (n ∷ h) ≡ true → (emptied heading trust kind level place h ≡ true)
+      ⊎ ((q : ℕ) × (dsb : Barrier) × (n.event ≡ Dsb q dsb) × EmptyAbove heading trust kind level place (n ∷ h))
+  pub emptied_stays : (kind : Kind) (level place : ℕ) (n : Noted) (h : List Noted)
+      → ((q v : ℕ) → n.event ≡ Write q place v → is_valid kind level v ≡ false)
+      → ((q : ℕ) → n.event ≡ Init q (page_of place) → ⊥)
+      → emptied heading trust kind level place h ≡ true → emptied heading trust kind level place (n ∷ h) ≡ true

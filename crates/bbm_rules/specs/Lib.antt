@@ -11,6 +11,7 @@ pub mod Limits
 pub mod Lists
 pub mod Locks
 pub mod Mapped
+pub mod Next
 pub mod Notes
 pub mod Outcome
 pub mod Pages

@@ -9,11 +9,17 @@ pub record Noted : Type 0 where
   pub event : Event
   -- how far it covers each place, where it is a TLBI
   pub covers : ℕ → Cover
+  -- its top cover of each place: how far it covers what ends there
+  pub tops : ℕ → Cover
   -- its position in the log; the first event has position 1
   pub position : ℕ
 
 abbrev pub event_of : Noted → Event
 event_of n = n.event
+
+-- the event as if it covered each place as far as its top cover says
+abbrev pub topped : Noted → Noted
+topped n = record n { covers = n.tops }
 
 -- the history without the notes
 abbrev pub events_of : List Noted → List Event

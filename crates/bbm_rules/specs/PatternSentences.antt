@@ -3,15 +3,16 @@
 -- `newer ++ older` the events of `newer` came after those of `older`; and `since` are those after the last valid write.
 -- Source: Arm ARM (DDI 0487), "Using break-before-make when updating translation table entries", and "TLB
 -- maintenance instructions".
-use Rattle.std.specs.Prelude.{◌≡◌, ℕ, ◌<◌, ◌⊎◌, true, false, List, ◌∷◌, ◌++◌}
+use Rattle.std.specs.Prelude.{◌≡◌, ℕ, suc, ◌<◌, ◌⊎◌, true, false, List, ◌∷◌, ◌++◌, map, Some, None}
 use Rattle.bbm_descriptor.specs.Descriptor.{is_valid}
 use Rattle.bbm_tlbi_scope.specs.declared.entry.Cover.{Cover}
 use Rattle.bbm_tlbi_scope.specs.declared.entry.Cover.TheVariants.{Half, Second, Full}
 use Rattle.bbm_rules.specs.Prelude.{Barrier, Kind, Heading, Init, Write, Dsb}
 use Rattle.bbm_events.specs.declared.claim.Claim.TheVariants.{Place, Two}
 use Rattle.bbm_rules.specs.Claims.{Trust, allows}
-use Rattle.bbm_rules.specs.Held.{ValidWrite}
-use Rattle.bbm_rules.specs.Notes.{Noted, event_of}
+use Rattle.bbm_rules.specs.Held.{ValidWrite, emptied, empties_tables, held, last_valid}
+use Rattle.bbm_rules.specs.Next.{next_of}
+use Rattle.bbm_rules.specs.Notes.{Noted, event_of, topped}
 use Rattle.bbm_rules.specs.Places.{page_of}
 use Rattle.bbm_rules.specs.Reach.{Issued, completes, reaches}
 use Rattle.bbm_rules.specs.Sentences.{Open}
@@ -102,7 +103,40 @@ pub record IsLastValid (kind : Kind) (level place : ℕ) (h : List Noted) (w : V
   pub no_init : (q : ℕ) (n : Noted) (after before : List Noted) → w.since ≡ after ++ n ∷ before
       → n.event ≡ Init q (page_of place) → ⊥
 
--- Held: the last valid write gave the place this value, and at some PE the place isn't cleansed since then.
+-- No TLB of p keeps an entry that ends in the last valid value of the place: it is cleansed, with the top cover of each
+-- TLBI in the place of its cover.
+abbrev pub IsAbove : Heading → Trust → ℕ → ℕ → List Noted → Type 0
+IsAbove heading trust place p since = Cleansed heading trust place p (map topped since)
+
+-- The last valid value of the place is a table, at every PE the place is above, and no place of the table's next page
+-- holds anything.
+pub record EmptyAbove (heading : Heading) (trust : Trust) (kind : Kind) (level place : ℕ) (h : List Noted) : Type 0 where
+  pub w : ValidWrite
+  pub is_last : last_valid kind level place h ≡ Some w
+  pub next : ℕ
+  pub table : next_of kind level w.value ≡ Some next
+  pub above : (p : ℕ) → p < heading.pes → IsAbove heading trust place p w.since
+  pub holds_none : (below : ℕ) → page_of below ≡ next → held heading trust kind (suc level) below h ≡ None
+
+-- Emptied: under version 5 or later, it was so at some DSB, and since then there was no valid write of the place and no
+-- init of its page.
+pub record Emptied (heading : Heading) (trust : Trust) (kind : Kind) (level place : ℕ) (h : List Noted) : Type 0 where
+  pub version : empties_tables heading.version ≡ true
+  pub q : ℕ
+  pub dsb : Barrier
+  pub newer : List Noted
+  pub barrier : Noted
+  pub older : List Noted
+  pub split : h ≡ newer ++ barrier ∷ older
+  pub is_barrier : barrier.event ≡ Dsb q dsb
+  pub empty : EmptyAbove heading trust kind level place (barrier ∷ older)
+  pub last : (r v : ℕ) (n : Noted) (after before : List Noted) → newer ≡ after ++ n ∷ before
+      → n.event ≡ Write r place v → is_valid kind level v ≡ false
+  pub no_init : (r : ℕ) (n : Noted) (after before : List Noted) → newer ≡ after ++ n ∷ before
+      → n.event ≡ Init r (page_of place) → ⊥
+
+-- Held: the last valid write gave the place this value, at some PE the place isn't cleansed since then, and it isn't
+-- emptied. That is said here by the test; `law_held` says that the test is the sentence above.
 pub record Holds (heading : Heading) (trust : Trust) (kind : Kind) (level place : ℕ) (h : List Noted) (value : ℕ)
     : Type 0 where
   pub since : List Noted
@@ -110,3 +144,4 @@ pub record Holds (heading : Heading) (trust : Trust) (kind : Kind) (level place 
   pub p : ℕ
   pub is_pe : p < heading.pes
   pub uncleansed : Cleansed heading trust place p since → ⊥
+  pub unemptied : emptied heading trust kind level place h ≡ false

@@ -1,7 +1,7 @@
 -- How far a place has been taken through break-before-make at a PE, and which places are on the way. Source: project's
 -- own choice.
 use Rattle.std.specs.Option.{option_map_or}
-use Rattle.std.specs.Prelude.{ℕ, Bool, false, not, ◌&&◌, List, Some, None, count_by, is_some, unwrap_or, if◌then◌else◌}
+use Rattle.std.specs.Prelude.{ℕ, Bool, false, not, ◌&&◌, ◌||◌, List, Some, None, count_by, is_some, unwrap_or, if◌then◌else◌}
 use Rattle.bbm_descriptor.specs.Descriptor.{is_valid}
 use Rattle.bbm_rules.specs.Prelude.{Heading, Event}
 use Rattle.bbm_rules.specs.declared.phase.Phase.{Phase}
@@ -9,7 +9,7 @@ use Rattle.bbm_rules.specs.declared.phase.Phase.TheVariants.{Clean, Live, Broken
 use Rattle.bbm_rules.specs.Claims.{Trust}
 use Rattle.bbm_rules.specs.Cleansing.{cleansed, half, seen}
 use Rattle.bbm_rules.specs.Covers.{noted}
-use Rattle.bbm_rules.specs.Held.{cleansed_everywhere, last_valid}
+use Rattle.bbm_rules.specs.Held.{cleansed_everywhere, emptied, last_valid}
 use Rattle.bbm_rules.specs.Lists.{◌>>=◌}
 use Rattle.bbm_rules.specs.Notes.{Noted, events_of}
 use Rattle.bbm_rules.specs.Places.{page_of}
@@ -28,8 +28,8 @@ module _ (heading : Heading) (trust : Trust) where
   phase_of h place p = unwrap_or (do
     n ← node_of heading trust (noted heading trust h) (page_of place)
     w ← last_valid n.kind n.level place (noted heading trust h)
-    if cleansed_everywhere heading trust place w.since then None
-        else Some (if is_valid n.kind n.level (value_of h place) then Live else broken_phase place p w.since)) Clean
+    if emptied heading trust n.kind n.level place (noted heading trust h) || cleansed_everywhere heading trust place w.since
+        then None else Some (if is_valid n.kind n.level (value_of h place) then Live else broken_phase place p w.since)) Clean
 
   -- Restless: a place of a tree that holds a value and whose value is invalid. A place that was never written holds
   -- nothing.

@@ -6,13 +6,12 @@ use Rattle.std.specs.Option.{option_map_or}
 use Rattle.std.specs.Prelude.{ℕ, zero, suc, ◌+◌, ◌*◌, ◌-◌, Bool, false, not, ◌==◌, List, [], ◌∷◌, ◌++◌, Option, Some}
 use Rattle.std.specs.Prelude.{None, is_some, find, flat_map, filter_map, if◌then◌else◌}
 use Rattle.bbm_regimes.specs.Extent.{Extent}
-use Rattle.bbm_descriptor.specs.Descriptor.{desc_of, is_valid}
-use Rattle.bbm_descriptor.specs.declared.desc.Desc.{Desc}
-use Rattle.bbm_descriptor.specs.declared.desc.Desc.TheVariants.{Table}
+use Rattle.bbm_descriptor.specs.Descriptor.{is_valid}
 use Rattle.bbm_rules.specs.Prelude.{Kind, Heading}
 use Rattle.bbm_rules.specs.Claims.{Trust}
 use Rattle.bbm_rules.specs.Held.{held}
 use Rattle.bbm_rules.specs.Lists.{◌>>=◌, any}
+pub use Rattle.bbm_rules.specs.Next.{next_in, next_of}
 use Rattle.bbm_rules.specs.Notes.{Noted, events_of}
 use Rattle.bbm_rules.specs.Places.{index_of}
 use Rattle.bbm_rules.specs.Roots.{Declared, first_input_page, input_pages, root_pages, roots_of, start_of}
@@ -54,14 +53,6 @@ nodes_of_root heading r = nodes_of_pages r.kind (start_of heading.world r.kind) 
 
 abbrev pub starts_at : Heading → ℕ → Declared → List Node
 starts_at heading level r = if start_of heading.world r.kind == level then nodes_of_root heading r else []
-
--- the next page where the descriptor is a table
-abbrev pub next_in : Desc → Option ℕ
-next_in (Table next ns) = Some next
-next_in _ = None
-
-abbrev pub next_of : Kind → ℕ → ℕ → Option ℕ
-next_of kind level value = next_in (desc_of kind level value)
 
 -- the page below a place, one level deeper; kind and root are the same
 abbrev pub node_below : Node → ℕ → ℕ → Node

@@ -83,13 +83,6 @@ module _ (heading : Heading) (trust : Trust) (k : Known heading trust) (place p 
       rw a.split (k.patterns_stay.publication place p a.newer (d ∷ a.older) b
       (k.patterns_stay.publication place p (d ∷ []) a.older b (publication_before a.q a.older t b a.is_open published)))
 
-  -- what is half before a TLBI is half after it
-  pub half_before : (q : ℕ) (since : List Noted) (t2 : Issued Noted) (b : Noted) (t : Issued Noted) (d : Noted)
-      → Open event_of q since t2 → HalfBy heading place p t2.before b t d → HalfBy heading place p since b t d
-  half_before q since t2 b t d o half =
-      rw o.split (k.patterns_stay.half place p o.newer (t2.tlbi ∷ t2.before) b t d
-      (k.patterns_stay.half place p (t2.tlbi ∷ []) t2.before b t d half))
-
 -- ---- answers
 
 -- the event is the barrier that answers the TLBI

@@ -1,5 +1,5 @@
 -- A TLBI that covers a place of a part, and that was issued after the entry was made, takes the entry.
-use Rattle.bbm_rules.proofs.Common.{◌≡◌, ℕ, suc, ◌+◌, ◌-◌, ◌<◌, ◌≤◌, ◌⊎◌, Bool, true, false, List, [], ◌∷◌, ◌++◌}
+use Rattle.bbm_rules.proofs.Common.{◌≡◌, ℕ, suc, ◌+◌, ◌-◌, ◌<◌, ◌≤◌, ◌⊎◌, ◌||◌, Bool, true, false, List, [], ◌∷◌, ◌++◌}
 use Rattle.bbm_rules.proofs.Common.{length, Some, None, is_some, Contains, refl, sym, ◌∙◌, ap, subst, inl, inr, arith}
 use Rattle.bbm_rules.proofs.Common.{true≢false, length-append, Extent, holds, desc_of, Desc, read_through, Cover}
 use Rattle.bbm_rules.proofs.Common.{PlaceView, keeps, Trust, seen, is_global, noted, view_at, ValidWrite, held}
@@ -14,23 +14,24 @@ use Rattle.bbm_rules.specs.Prelude.{input_pages}
 use Rattle.bbm_rules.specs.Tree.{tree}
 use Rattle.bbm_histories.specs.TreeChanges.{HeldBy, View}
 use Rattle.bbm_tlb_machine.specs.Entry.{Entry, Part, desc_in, head_of, is_given_up, is_leaf, parts_of, region_in}
-use Rattle.bbm_tlb_machine.specs.Invariant.{Fine, Holding, IsAt, IsBelow, IsNear, Rooted}
+use Rattle.bbm_tlb_machine.specs.Invariant.{Fine, Holding, IsAt, IsBelow, IsNear, Rooted, grade}
 use Rattle.bbm_tlb_machine.specs.KnownOfMachine.{Known}
 use Rattle.bbm_tlb_machine.proofs.Descs.{leaf_if_no_table, no_leaf_if_table, some_pages}
 use Rattle.bbm_histories.proofs.Induction.{events_append, kept_before, events_length}
 use Rattle.bbm_tlb_machine.proofs.Facts.{has_tag, held_there, means, tag_then}
 use Rattle.bbm_tlb_machine.proofs.Regions.{chain_kind, inside_of, last_or_above, region_holds}
-use Rattle.bbm_tlb_machine.proofs.Scopes.{CoversBy, covers_by}
+use Rattle.bbm_tlb_machine.proofs.Scopes.{CoversBy, covers_by, tops_by}
 
--- a place of a page of the trees that holds a value, as a TLBI sees it that comes after these events
-abbrev pub view_of : Heading → Trust → List Noted → Node → ℕ → ℕ → PlaceView
-view_of heading trust older n place value = record {
+-- a place of a page of the trees that holds a value, as a TLBI sees it that comes after these events; or, of what ends
+-- there, as if no place below held anything
+abbrev pub view_of : Heading → Trust → Bool → List Noted → Node → ℕ → ℕ → PlaceView
+view_of heading trust top older n place value = record {
   kind = n.kind;
   region = region_of n place;
   level = n.level;
   table = is_some (next_of n.kind n.level value);
   global = is_global (desc_of n.kind n.level value);
-  childless = is_childless heading trust older n value;
+  childless = top || is_childless heading trust older n value;
   tags = tag_set (tags_of heading trust n.root (events_of older));
 }
 
@@ -48,7 +49,7 @@ module _ (heading : Heading) (trust : Trust) (k : Known heading trust) (h : List
   abbrev notes : List Noted
   notes = noted heading trust h
 
-  module _ (part : Part) (i : Contains (parts_of x) part) where
+  module _ (top : Bool) (part : Part) (i : Contains (parts_of x) part) (at_last : top ≡ true → x.last ≡ part) where
     abbrev n : Node
     n = (g.placed part i).node
 
@@ -75,7 +76,7 @@ module _ (heading : Heading) (trust : Trust) (k : Known heading trust) (h : List
           | inr r ↦ absurd (true≢false (ap is_some (sym r.2.inside) ∙ e))
         ]
 
-    leaf_ends : is_some (next_in (desc_in part)) ≡ false → EndsBy false true (head_of x) (view_of heading trust [] n part.place value)
+    leaf_ends : is_some (next_in (desc_in part)) ≡ false → EndsBy false true (head_of x) (view_of heading trust top [] n part.place value)
     leaf_ends e =
         let s = is_last e in (
           ap (λ (p : Part). is_leaf (desc_in p)) s ∙ leaf_if_no_table part.kind part.level part.value (f.shape.valid part i) e,
@@ -85,14 +86,14 @@ module _ (heading : Heading) (trust : Trust) (k : Known heading trust) (h : List
 
     -- a childless table is the last part: the place of one below it would hold something
     table_ends : is_some (next_in (desc_in part)) ≡ true → is_childless heading trust notes n value ≡ true
-        → EndsBy true true (head_of x) (view_of heading trust [] n part.place value)
+        → EndsBy true true (head_of x) (view_of heading trust top [] n part.place value)
     table_ends e none = by (last_or_above x.last x.above f.shape.chained part i)
       where
         c : Childless heading trust (noted heading trust h) (g.placed part i).node (g.holding part i).value
         c = k.childless.sound notes n value none
 
         by : (x.last ≡ part) ⊎ ((lower : Part) × Contains (parts_of x) lower × IsBelow lower part)
-            → EndsBy true true (head_of x) (view_of heading trust [] (g.placed part i).node part.place (g.holding part i).value)
+            → EndsBy true true (head_of x) (view_of heading trust top [] (g.placed part i).node part.place (g.holding part i).value)
         by (inl s) = (
           ap (λ (p : Part). is_leaf (desc_in p)) s ∙ no_leaf_if_table (desc_in part) e,
           ap region_in s ∙ same_region,
@@ -106,27 +107,36 @@ module _ (heading : Heading) (trust : Trust) (k : Known heading trust) (h : List
             let apart : None ≡ Some q.value = sym (c.holds_none r.0.place (sym page)) ∙ holds in
             cc
 
+    -- the entry ends in the table at the place
+    top_ends : is_some (next_in (desc_in part)) ≡ true → x.last ≡ part
+        → EndsBy true true (head_of x) (view_of heading trust top [] n part.place value)
+    top_ends e s = (
+      ap (λ (p : Part). is_leaf (desc_in p)) s ∙ no_leaf_if_table (desc_in part) e,
+      ap region_in s ∙ same_region,
+    )
+
     ends : (older : List Noted)
         → (is_childless heading trust older n value ≡ true → is_childless heading trust notes n value ≡ true)
-        → EndsBy (is_some (next_of n.kind n.level value)) (is_childless heading trust older n value) (head_of x)
-        (view_of heading trust older n part.place value)
-    ends older still = by (is_some (next_of n.kind n.level value)) (is_childless heading trust older n value) refl refl
+        → EndsBy (is_some (next_of n.kind n.level value)) (top || is_childless heading trust older n value) (head_of x)
+        (view_of heading trust top older n part.place value)
+    ends older still = by (is_some (next_of n.kind n.level value)) top (is_childless heading trust older n value) refl refl refl
       where
         table : is_some (next_in (desc_of (g.placed part i).node.kind (g.placed part i).node.level (g.holding part i).value)) ≡ is_some (next_in (desc_in part))
         table = ap (λ (d : Desc). is_some (next_in d)) means_it
 
-        by : (t c : Bool) → is_some (next_of (g.placed part i).node.kind (g.placed part i).node.level (g.holding part i).value) ≡ t
-            → is_childless heading trust older (g.placed part i).node (g.holding part i).value ≡ c
-            → EndsBy t c (head_of x) (view_of heading trust older (g.placed part i).node part.place (g.holding part i).value)
-        by false c e g = leaf_ends (sym table ∙ e)
-        by true true e g = table_ends (sym table ∙ e) (still g)
-        by true false e g =
+        by : (t o c : Bool) → is_some (next_of (g.placed part i).node.kind (g.placed part i).node.level (g.holding part i).value) ≡ t
+            → top ≡ o → is_childless heading trust older (g.placed part i).node (g.holding part i).value ≡ c
+            → EndsBy t (o || c) (head_of x) (view_of heading trust top older (g.placed part i).node part.place (g.holding part i).value)
+        by false o c e is g = leaf_ends (sym table ∙ e)
+        by true true c e is g = top_ends (sym table ∙ e) (at_last is)
+        by true false true e is g = table_ends (sym table ∙ e) (still g)
+        by true false false e is g =
             subst (λ (r : Extent). holds r (region_in x.last) ≡ true) same_region
             (region_holds part x.last (inside_of x.last x.above f.shape.chained part i))
 
     agrees : (older : List Noted) (newer : List Event) → h ≡ newer ++ events_of older → x.since ≤ length (events_of older)
         → (is_childless heading trust older n value ≡ true → is_childless heading trust notes n value ≡ true)
-        → Agrees (head_of x) (view_of heading trust older n part.place value)
+        → Agrees (head_of x) (view_of heading trust top older n part.place value)
     agrees older newer split since still = record {
       kind = ap (read_through x.kind) kind_of_last ∙ f.shape.fits;
       tag = rw (kind_of_last, at.root) (has_tag heading trust k h kept x (events_of older)
@@ -181,7 +191,7 @@ module _ (heading : Heading) (trust : Trust) (k : Known heading trust) (h : List
           (k.one_node.the_first (events_of view.older) kept_then n
           (subst (λ (xs : List Noted). Contains (tree heading trust xs) n) is_noted view.was.in_tree))
 
-      pub view_then : view_at heading trust view.older part.place ≡ Some (view_of heading trust view.older (g.placed part i).node part.place (g.holding part i).value)
+      pub view_then : view_at heading trust view.older part.place ≡ Some (view_of heading trust false view.older (g.placed part i).node part.place (g.holding part i).value)
       view_then = rw (node_then, view.was.holds)
 
       -- the events before the TLBI
@@ -205,22 +215,30 @@ module _ (heading : Heading) (trust : Trust) (k : Known heading trust) (h : List
       since_then =
           let le = earlier published.newer (published.between ++ published.write ∷ published.older) b published.split in omega (arith, le, made)
 
-      pub agrees_then : Agrees (head_of x) (view_of heading trust view.older (g.placed part i).node part.place (g.holding part i).value)
+      pub agrees_then : Agrees (head_of x) (view_of heading trust top view.older (g.placed part i).node part.place (g.holding part i).value)
       agrees_then =
           agrees view.older (events_of o.newer ++ t.tlbi.event ∷ [])
           (is_split ∙ sym (append_assoc (events_of o.newer) (t.tlbi.event ∷ []) (events_of view.older))) since_then
           (k.limbo_is_empty h kept n part.place value p w o.newer t.before view.older t.tlbi holds_it o.split view.split was_seen)
 
-      module _ (cover : Cover) (some : cover ≡ NoCover → ⊥) (covered : t.tlbi.covers part.place ≡ cover) where
-        covers : CoversBy heading view.older t.tlbi.event (view_of heading trust view.older (g.placed part i).node part.place (g.holding part i).value) cover
-        covers =
-            covers_by heading trust view.older t.tlbi.event part.place (view_of heading trust view.older n part.place value) cover
+      module _ (cover : Cover) (some : cover ≡ NoCover → ⊥) (covered : grade top t.tlbi part.place ≡ cover) where
+        covers_as : (ends : Bool) → grade ends t.tlbi part.place ≡ cover
+            → CoversBy heading view.older t.tlbi.event (view_of heading trust ends view.older (g.placed part i).node part.place (g.holding part i).value) cover
+        covers_as false covered =
+            covers_by heading trust view.older t.tlbi.event part.place (view_of heading trust false view.older n part.place value) cover
             view_then some
             (ap (λ (c : ℕ → Cover). c part.place) (sym (k.notes.each h o.newer view.older t.tlbi view.split).1) ∙ covered)
+        covers_as true covered =
+            tops_by heading trust view.older t.tlbi.event part.place (view_of heading trust false view.older n part.place value) cover
+            view_then some
+            (ap (λ (c : ℕ → Cover). c part.place) (sym (k.notes.tops h o.newer view.older t.tlbi view.split)) ∙ covered)
+
+        covers : CoversBy heading view.older t.tlbi.event (view_of heading trust top view.older (g.placed part i).node part.place (g.holding part i).value) cover
+        covers = covers_as top covered
 
         was_covering : Covering heading x t cover view.older
         was_covering = record {
-          view = view_of heading trust view.older n part.place value;
+          view = view_of heading trust top view.older n part.place value;
           by_scope = covers;
           agrees = agrees_then;
           since = since_then;

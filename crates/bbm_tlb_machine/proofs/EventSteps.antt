@@ -3,20 +3,24 @@ use Rattle.bbm_rules.proofs.Common.{◌≡◌, ℕ, suc, ◌≤◌, true, false,
 use Rattle.bbm_rules.proofs.Common.{Contains, refl, sym, ◌∙◌, ap, subst, inl, inr, arith, bind_some, Kind, needs}
 use Rattle.bbm_rules.proofs.Common.{tag_of, EntryHead, keeps, Trust, note, noted, ValidWrite, cleansed_everywhere, held}
 use Rattle.bbm_rules.proofs.Common.{last_valid, last_valid_after, later, IsLastValid, Heading, El2, S2, Ttbr0, Ttbr1}
-use Rattle.bbm_rules.proofs.Common.{Event, Dsb, is_root, held_at}
+use Rattle.bbm_rules.proofs.Common.{Event, Dsb, Barrier, Noted, desc_of, is_root, held_at, next_in, next_of, page_of, contains_head}
 use Rattle.bbm_histories.specs.TagSteps.{kind_of_tag}
 use Rattle.bbm_histories.specs.TreeChanges.{HeldChange}
 use Rattle.bbm_rules.proofs.Common.{Bool, ◌&&◌, ◌||◌, nat_le, true≢false, gives_up}
 use Rattle.bbm_rules.specs.Roots.{given_up_since}
-use Rattle.bbm_tlb_machine.specs.Entry.{Entry, Part, head_of, is_given_up, parts_of, tag_of_entry}
-use Rattle.bbm_tlb_machine.specs.Invariant.{Fine, Holding, IsAt, Rooted}
+use Rattle.bbm_rules.specs.Held.{emptied}
+use Rattle.bbm_rules.specs.PatternSentences.{EmptyAbove, Holds}
+use Rattle.bbm_tlb_machine.specs.Entry.{Entry, Part, desc_in, head_of, is_given_up, parts_of, tag_of_entry}
 use Rattle.bbm_tlb_machine.specs.FineSteps.{LeavesIt}
+use Rattle.bbm_tlb_machine.specs.Invariant.{Fine, Holding, IsAt, IsBelow, Rooted}
 use Rattle.bbm_tlb_machine.specs.KnownOfMachine.{Known}
 use Rattle.bbm_tlb_machine.proofs.Descs.{no_need}
-use Rattle.bbm_tlb_machine.proofs.Facts.{held_there, held_valid, tag_now}
+use Rattle.bbm_tlb_machine.proofs.Facts.{held_there, held_valid, means, tag_now}
+use Rattle.bbm_tlb_machine.proofs.Grades.{above_as, cleansed_as}
 use Rattle.bbm_tlb_machine.proofs.InTrees.{all_placed}
 use Rattle.bbm_tlb_machine.proofs.Patterns.{joined_before_after, made_before_after, tagged_after}
 use Rattle.bbm_tlb_machine.proofs.Patterns.{uncleansed_after}
+use Rattle.bbm_tlb_machine.proofs.Regions.{all_chained}
 use Rattle.bbm_histories.proofs.Induction.{kept_before}
 
 pub tag_kind : (kind : Kind) (e : EntryHead) → kind_of_tag (tag_of kind e) ≡ kind
@@ -44,37 +48,61 @@ module _ (heading : Heading) (trust : Trust) (k : Known heading trust) (h : List
     abbrev g : Rooted heading trust h x
     g = f.rooted (still_up heading.words.unflushed (nat_le x.since (length h) && gives_up x.root e) (given_up_since x.since x.root h) up')
 
+    -- the event, with its notes
+    abbrev noted_now : Noted
+    noted_now = note heading trust (noted heading trust h) e
+
     module _ (part : Part) (i : Contains (parts_of x) part) where
-      -- after a DSB the place still holds something, since it isn't cleansed at the entry's PE
-      still_held : (dsb : Event) → e ≡ dsb → (later_is : (found : Option ValidWrite)
-          → last_valid_after part.kind part.level part.place dsb (note heading trust (noted heading trust h) e) found
-          ≡ later (note heading trust (noted heading trust h) e) found)
-          → held heading trust part.kind part.level part.place (noted heading trust (e ∷ h)) ≡ None → ⊥
-      still_held dsb is later_is gone =
-          let b = bind_some (λ (w : ValidWrite). cond (cleansed_everywhere heading trust part.place w.since) None (Some w.value))
-          (last_valid part.kind part.level part.place (noted heading trust h)) (g.holding part i).value (g.holding part i).holds in
-          let w : ValidWrite = record { value = b.0.value; since = note heading trust (noted heading trust h) e ∷ b.0.since } in
-          let last : last_valid part.kind part.level part.place (noted heading trust (e ∷ h))
-          ≡ Some (record { value = b.0.value; since = note heading trust (noted heading trust h) e ∷ b.0.since })
-          = ap (λ (y : Event). last_valid_after part.kind part.level part.place y (note heading trust (noted heading trust h) e)
+      -- what the place held before
+      held_before : Holds heading trust part.kind part.level part.place (noted heading trust h) (g.holding part i).value
+      held_before = k.held.sound part.kind part.level part.place (noted heading trust h) (g.holding part i).value (g.holding part i).holds
+
+      -- after a DSB its last valid write is the same
+      same_last : (q : ℕ) (dsb : Barrier) → e ≡ Dsb q dsb
+          → last_valid part.kind part.level part.place (noted heading trust (e ∷ h))
+          ≡ Some (record { value = (g.holding part i).value; since = noted_now ∷ held_before.since })
+      same_last q dsb is =
+          ap (λ (y : Event). last_valid_after part.kind part.level part.place y noted_now
           (last_valid part.kind part.level part.place (noted heading trust h))) is
-          ∙ (later_is (last_valid part.kind part.level part.place (noted heading trust h))
-          ∙ ap (λ (o : Option ValidWrite). later (note heading trust (noted heading trust h) e) o) b.1) in
+          ∙ ap (λ (o : Option ValidWrite). later noted_now o)
+          (k.last_valid.complete part.kind part.level part.place (noted heading trust h)
+          (record { value = (g.holding part i).value; since = held_before.since }) held_before.last_write)
+
+      -- what is emptied now is empty, and the event is a DSB
+      emptied_now : emptied heading trust part.kind part.level part.place (noted heading trust (e ∷ h)) ≡ true
+          → (q : ℕ) × (dsb : Barrier) × (e ≡ Dsb q dsb) × EmptyAbove heading trust part.kind part.level part.place (noted heading trust (e ∷ h))
+      emptied_now gone =
+          elim (k.held.emptied_step part.kind part.level part.place noted_now (noted heading trust h) gone) [
+            | inl before ↦ absurd (true≢false (sym before ∙ held_before.unemptied))
+            | inr now ↦ now
+          ]
+
+      -- after a DSB the place still holds something where it isn't emptied, since it isn't cleansed at the entry's PE
+      still_held : (q : ℕ) (dsb : Barrier) → e ≡ Dsb q dsb
+          → emptied heading trust part.kind part.level part.place (noted heading trust (e ∷ h)) ≡ false
+          → held heading trust part.kind part.level part.place (noted heading trust (e ∷ h)) ≡ None → ⊥
+      still_held q dsb is stays gone =
+          let w : ValidWrite = record { value = (g.holding part i).value; since = noted_now ∷ held_before.since } in
+          let last : last_valid part.kind part.level part.place (noted heading trust (e ∷ h))
+          ≡ Some (record { value = (g.holding part i).value; since = noted_now ∷ held_before.since }) = same_last q dsb is in
           let l : IsLastValid part.kind part.level part.place (noted heading trust (e ∷ h)) w
           = k.last_valid.sound part.kind part.level part.place (noted heading trust (e ∷ h)) w last in
-          let holds : held heading trust part.kind part.level part.place (noted heading trust (e ∷ h)) ≡ Some b.0.value
-          = k.held.complete part.kind part.level part.place (noted heading trust (e ∷ h)) b.0.value (record {
+          let holds : held heading trust part.kind part.level part.place (noted heading trust (e ∷ h)) ≡ Some (g.holding part i).value
+          = k.held.complete part.kind part.level part.place (noted heading trust (e ∷ h)) (g.holding part i).value (record {
             since = w.since;
             last_write = l;
             p = x.pe;
             is_pe = f.shape.is_pe;
-            uncleansed = uncleansed_after heading trust k h e kept_then x f up g none part i w last x.pe (inl refl);
+            uncleansed = λ c. uncleansed_after heading trust k h e kept_then x f up g none false part i (λ t. absurd (true≢false (sym t))) w last
+                x.pe (inl refl) (cleansed_as heading trust part.place x.pe w.since c);
+            unemptied = stays;
           }) in
-          let apart : None ≡ Some b.0.value = sym gone ∙ holds in
+          let apart : None ≡ Some (g.holding part i).value = sym gone ∙ holds in
           cc
 
-      holding_after : Holding heading trust (e ∷ h) part
-      holding_after = by (k.held_changes.changes h e k.proper.some_pe kept (g.placed part i).node part.place
+      holding_after : emptied heading trust part.kind part.level part.place (noted heading trust (e ∷ h)) ≡ false
+          → Holding heading trust (e ∷ h) part
+      holding_after stays = by (k.held_changes.changes h e k.proper.some_pe kept (g.placed part i).node part.place
           (g.placed part i).in_tree (g.placed part i).is_at.inside)
         where
           at : IsAt (g.placed part i).node x.root part
@@ -105,7 +133,46 @@ module _ (heading : Heading) (trust : Trust) (k : Known heading trust) (h : List
                     (held_valid heading trust k h kept_then x part (g.holding part i))
                     (rw (at.kind, at.level) at no) (g.holding part i).same_core;
               }
-          by (inr (inr d)) = absurd (still_held (Dsb d.0 d.1) d.2 (λ found. refl) (there ∙ d.3))
+          by (inr (inr d)) = absurd (still_held d.0 d.1 d.2 stays (there ∙ d.3))
+
+    -- the place of the last part isn't emptied: it isn't above
+    last_stays : (b : Bool) → emptied heading trust x.last.kind x.last.level x.last.place (noted heading trust (e ∷ h)) ≡ b → b ≡ false
+    last_stays false gone = refl
+    last_stays true gone =
+        let now = emptied_now x.last (contains_head x.above x.last) gone in
+        let empty : EmptyAbove heading trust x.last.kind x.last.level x.last.place (noted heading trust (e ∷ h)) = now.3 in
+        absurd (uncleansed_after heading trust k h e kept_then x f up g none true x.last (contains_head x.above x.last) (λ t. refl)
+        empty.w empty.is_last x.pe (inl refl)
+        (above_as heading trust x.last.place x.pe empty.w.since (empty.above x.pe f.shape.is_pe)))
+
+    -- nor is that of a part below which another was read, whose place still holds something
+    upper_stays : (lower upper : Part) → Contains (parts_of x) upper → IsBelow lower upper → Holding heading trust (e ∷ h) lower
+        → (b : Bool) → emptied heading trust upper.kind upper.level upper.place (noted heading trust (e ∷ h)) ≡ b → b ≡ false
+    upper_stays lower upper i below holds false gone = refl
+    upper_stays lower upper i below holds true gone =
+        let now = emptied_now upper i gone in
+        let empty : EmptyAbove heading trust upper.kind upper.level upper.place (noted heading trust (e ∷ h)) = now.3 in
+        let both : Some empty.w ≡ Some (record { value = (g.holding upper i).value; since = noted_now ∷ (held_before upper i).since })
+        = sym empty.is_last ∙ same_last upper i now.0 now.1 now.2 in
+        let same : empty.w ≡ record { value = (g.holding upper i).value; since = noted_now ∷ (held_before upper i).since } = cc in
+        let at : IsAt (g.placed upper i).node x.root upper = (g.placed upper i).is_at in
+        let meaning : desc_of upper.kind upper.level (g.holding upper i).value ≡ desc_in upper
+        = rw (at.kind, at.level) at (means heading trust k h kept_then x upper (g.placed upper i).node at (g.holding upper i) (f.shape.valid upper i)) in
+        let nexts : Some empty.next ≡ Some (page_of lower.place)
+        = sym empty.table ∙ (ap (λ (v : ValidWrite). next_of upper.kind upper.level v.value) same ∙ (ap next_in meaning ∙ below.inside)) in
+        let page : empty.next ≡ page_of lower.place = cc in
+        let there : held heading trust upper.kind (suc upper.level) lower.place (noted heading trust (e ∷ h)) ≡ Some holds.value
+        = ap (λ (c : Kind). held heading trust c (suc upper.level) lower.place (noted heading trust (e ∷ h))) (sym below.kind)
+        ∙ (ap (λ (l : ℕ). held heading trust lower.kind l lower.place (noted heading trust (e ∷ h))) (sym below.level) ∙ holds.holds) in
+        let apart : None ≡ Some holds.value = sym (empty.holds_none lower.place (sym page)) ∙ there in
+        cc
+
+    -- from the last part up, each place still holds something
+    all_held : (part : Part) → Contains (parts_of x) part → Holding heading trust (e ∷ h) part
+    all_held part i =
+        all_chained (λ (q : Part). Contains (parts_of x) q → Holding heading trust (e ∷ h) q) x.last x.above f.shape.chained
+        (λ lower upper m below before j. holding_after upper j (upper_stays lower upper j below (before m) _ refl))
+        (λ j. holding_after x.last j (last_stays _ refl)) part i i
 
     rooted_after : Rooted heading trust (e ∷ h) x
     rooted_after =
@@ -116,8 +183,8 @@ module _ (heading : Heading) (trust : Trust) (k : Known heading trust) (h : List
         (tag_now heading trust k (e ∷ h) kept x (tagged_after heading trust k h e kept_then x f none) up' made)) in
         record {
           placed = all_placed heading trust k (e ∷ h) kept x x.last.kind declared x.last x.above refl f.shape.begins f.shape.chained
-              holding_after f.shape.valid;
-          holding = holding_after;
+              all_held f.shape.valid;
+          holding = all_held;
           uncleansed = uncleansed_after heading trust k h e kept_then x f up g none;
           made_before = made_before_after heading trust k h e kept_then x f up g none;
           joined_before = joined_before_after heading trust k h e kept_then x f up g none;

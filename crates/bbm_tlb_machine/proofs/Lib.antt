@@ -26,3 +26,4 @@ mod Runs
 mod SafeLaw
 mod Scopes
 mod Taken
+mod Grades

@@ -3,13 +3,13 @@ use Rattle.bbm_rules.proofs.Common.{◌≡◌, ℕ, suc, ◌+◌, ◌<◌, ◌�
 use Rattle.bbm_rules.proofs.Common.{Some, None, Contains, refl, sym, ◌∙◌, ap, subst, inl, inr, arith, true≢false}
 use Rattle.bbm_rules.proofs.Common.{length-append, and_parts, eqb-true, ltb-true, Kind, is_valid, needs, read_through}
 use Rattle.bbm_rules.proofs.Common.{tag_of, EntryKind, Stage2, Combined, keeps, Trust, seen, noted, ValidWrite, held}
-use Rattle.bbm_rules.proofs.Common.{last_valid, is_that, Noted, Cleansed, HalfBy, Publication, page_of, Heading, El2}
+use Rattle.bbm_rules.proofs.Common.{last_valid, is_that, Noted, Publication, page_of, Heading, El2}
 use Rattle.bbm_rules.proofs.Common.{S2, Ttbr0, Ttbr1, Tag, Vmid, Asid, Event, Dsb, Issued, is_root, TakenAway, reads}
 use Rattle.bbm_rules.proofs.Common.{Node, next_of, is_readable, contains_cases, contains_head, contains_none}
 use Rattle.bbm_rules.specs.Prelude.{kind_in_world}
 use Rattle.bbm_histories.specs.ValueChanges.{Window}
 use Rattle.bbm_tlb_machine.specs.Entry.{Entry, Part, head_of, parts_of, tag_of_entry}
-use Rattle.bbm_tlb_machine.specs.Invariant.{Chained, Fine, Holding, IsAt, IsBelow, IsNear, Placed, Rooted, Tagged}
+use Rattle.bbm_tlb_machine.specs.Invariant.{Chained, CleansedAs, Fine, HalfAs, Holding, IsAt, IsBelow, IsNear, Placed, Rooted, Tagged}
 use Rattle.bbm_tlb_machine.specs.Invariant.{start_nodes}
 use Rattle.bbm_tlb_machine.specs.Safe.{IsLog}
 use Rattle.bbm_tlb_machine.specs.KnownOfMachine.{Known}
@@ -106,19 +106,19 @@ module _ (heading : Heading) (trust : Trust) (k : Known heading trust) (h : List
       at_pe q (inl e) place since b published = subst (λ (r : ℕ). Publication heading place r since b) e published
       at_pe q (inr c) place since b published = k.uniform.publication place q x.pe since b c.0 is_pe published
 
-  new_uncleansed : (x : Entry) (part : Part) → IsNew x part → (w : ValidWrite)
+  new_uncleansed : (top : Bool) (x : Entry) (part : Part) → IsNew x part → (w : ValidWrite)
       → last_valid part.kind part.level part.place (noted heading trust h) ≡ Some w → (p : ℕ) → IsNear heading x p
-      → Cleansed heading trust part.place p w.since → ⊥
-  new_uncleansed x part new w last p near (inl one) =
+      → CleansedAs top heading part.place p w.since → ⊥
+  new_uncleansed top x part new w last p near (inl one) =
       new.unseen w last p near one.b (publication_answered heading trust k part.place p w.since one.t one.d one.b one.flush.answer one.published)
-  new_uncleansed x part new w last p near (inr two) =
+  new_uncleansed top x part new w last p near (inr two) =
       new.unseen w last p near two.b (publication_answered heading trust k part.place p w.since two.t2 two.d2 two.b two.second.answer
       (publication_answered heading trust k part.place p two.t2.before two.t1 two.d1 two.b two.first.flush.answer two.first.published))
 
-  new_half : (x : Entry) (part : Part) → IsNew x part → (w : ValidWrite)
+  new_half : (top : Bool) (x : Entry) (part : Part) → IsNew x part → (w : ValidWrite)
       → last_valid part.kind part.level part.place (noted heading trust h) ≡ Some w → (p : ℕ) → IsNear heading x p
-      → (b : Noted) (t : Issued Noted) (d : Noted) → HalfBy heading part.place p w.since b t d → ⊥
-  new_half x part new w last p near b t d half =
+      → (b : Noted) (t : Issued Noted) (d : Noted) → HalfAs top heading part.place p w.since b t d → ⊥
+  new_half top x part new w last p near b t d half =
       new.unseen w last p near b (publication_answered heading trust k part.place p w.since t d b half.flush.answer half.published)
 
   -- an entry with the root, the moment and the tag of one that is tagged is tagged
@@ -206,9 +206,9 @@ module _ (heading : Heading) (trust : Trust) (k : Known heading trust) (h : List
     start_rooted = record {
       placed = only (λ (q : Part). Placed heading trust h (root_of heading.world kind place) q) first_placed;
       holding = only (λ (q : Part). Holding heading trust h q) first_new.holding;
-      uncleansed = λ q i w last r near c. new_uncleansed x q (only (λ (q : Part). IsNew x q) first_new q i) w last r near c;
+      uncleansed = λ top q i at_last w last r near c. new_uncleansed top x q (only (λ (q : Part). IsNew x q) first_new q i) w last r near c;
       made_before = λ q i w last r near b published. absurd ((only (λ (q : Part). IsNew x q) first_new q i).unseen w last r near b published);
-      joined_before = λ q i w last r near b t d half. absurd (new_half x q (only (λ (q : Part). IsNew x q) first_new q i) w last r near b t d half);
+      joined_before = λ top q i at_last w last r near b t d half. absurd (new_half top x q (only (λ (q : Part). IsNew x q) first_new q i) w last r near b t d half);
     }
 
     pub fine_start : Fine heading trust h (started heading (length h) p kind number place value)
@@ -263,20 +263,43 @@ module _ (heading : Heading) (trust : Trust) (k : Known heading trust) (h : List
     extended_valid : (q : Part) → Contains (parts_of (extended x place value)) q → is_valid q.kind q.level q.value ≡ true
     extended_valid = more (λ (q : Part). is_valid q.kind q.level q.value ≡ true) s.valid valid
 
+    -- by covers of each part; by top covers of the new one, which is the last
+    abbrev Stays : Bool → Part → Type 0
+    Stays top q = (w : ValidWrite) → last_valid q.kind q.level q.place (noted heading trust h) ≡ Some w → (p : ℕ)
+        → IsNear heading x p → CleansedAs top heading q.place p w.since → ⊥
+
+    uncleansed_by : (top : Bool) (q : Part) → Contains (parts_of (extended x place value)) q
+        → (top ≡ true → next_part x.last place value ≡ q) → Stays top q
+    uncleansed_by true q i at_last =
+        subst (λ (q : Part). Stays true q) (at_last refl) (λ w last p near c. new_uncleansed true x part next_new w last p near c)
+    uncleansed_by false q i at_last =
+        more (λ (q : Part). Stays false q) (λ w last p near c. new_uncleansed false x part next_new w last p near c)
+        (λ q j. (f.rooted s.goes_on).uncleansed false q j (λ t. absurd (true≢false (sym t)))) q i
+
+    abbrev Joined : Bool → Part → Type 0
+    Joined top q = (w : ValidWrite) → last_valid q.kind q.level q.place (noted heading trust h) ≡ Some w → (p : ℕ)
+        → IsNear heading x p → (b : Noted) (t : Issued Noted) (d : Noted) → HalfAs top heading q.place p w.since b t d
+        → (x.kind ≡ Combined) × (x.joined < d.position)
+
+    joined_by : (top : Bool) (q : Part) → Contains (parts_of (extended x place value)) q
+        → (top ≡ true → next_part x.last place value ≡ q) → Joined top q
+    joined_by true q i at_last =
+        subst (λ (q : Part). Joined true q) (at_last refl)
+        (λ w last p near b t d half. absurd (new_half true x part next_new w last p near b t d half))
+    joined_by false q i at_last =
+        more (λ (q : Part). Joined false q)
+        (λ w last p near b t d half. absurd (new_half false x part next_new w last p near b t d half))
+        (λ q j. (f.rooted s.goes_on).joined_before false q j (λ t. absurd (true≢false (sym t)))) q i
+
     extended_rooted : Rooted heading trust h (extended x place value)
     extended_rooted = record {
       placed = more (λ (q : Part). Placed heading trust h x.root q) next_placed (f.rooted s.goes_on).placed;
       holding = more (λ (q : Part). Holding heading trust h q) next_new.holding (f.rooted s.goes_on).holding;
-      uncleansed = more (λ (q : Part). (w : ValidWrite) → last_valid q.kind q.level q.place (noted heading trust h) ≡ Some w → (p : ℕ)
-          → IsNear heading x p → Cleansed heading trust q.place p w.since → ⊥)
-          (λ w last p near c. new_uncleansed x part next_new w last p near c) (f.rooted s.goes_on).uncleansed;
+      uncleansed = λ top q i at_last. uncleansed_by top q i at_last;
       made_before = more (λ (q : Part). (w : ValidWrite) → last_valid q.kind q.level q.place (noted heading trust h) ≡ Some w → (p : ℕ)
           → IsNear heading x p → (b : Noted) → Publication heading q.place p w.since b → x.since < b.position)
           (λ w last p near b published. absurd (next_new.unseen w last p near b published)) (f.rooted s.goes_on).made_before;
-      joined_before = more (λ (q : Part). (w : ValidWrite) → last_valid q.kind q.level q.place (noted heading trust h) ≡ Some w → (p : ℕ)
-          → IsNear heading x p → (b : Noted) (t : Issued Noted) (d : Noted) → HalfBy heading q.place p w.since b t d
-          → (x.kind ≡ Combined) × (x.joined < d.position))
-          (λ w last p near b t d half. absurd (new_half x part next_new w last p near b t d half)) (f.rooted s.goes_on).joined_before;
+      joined_before = λ top q i at_last. joined_by top q i at_last;
     }
 
     pub fine_extended : Fine heading trust h (extended x place value)
@@ -311,8 +334,8 @@ module _ (heading : Heading) (trust : Trust) (k : Known heading trust) (h : List
             holding = g.holding;
             uncleansed = g.uncleansed;
             made_before = g.made_before;
-            joined_before = λ q i w last p near b t d half.
-                let apart : x.kind ≡ Combined = (g.joined_before q i w last p near b t d half).0 in cc;
+            joined_before = λ top q i at_last w last p near b t d half.
+                let apart : x.kind ≡ Combined = (g.joined_before top q i at_last w last p near b t d half).0 in cc;
           };
         }
 
@@ -330,9 +353,9 @@ module _ (heading : Heading) (trust : Trust) (k : Known heading trust) (h : List
           rooted = λ up. let g : Rooted heading trust h x = f.rooted up in record {
             placed = g.placed;
             holding = g.holding;
-            uncleansed = λ q i w last r n. g.uncleansed q i w last r (near r n);
+            uncleansed = λ top q i at_last w last r n. g.uncleansed top q i at_last w last r (near r n);
             made_before = λ q i w last r n. g.made_before q i w last r (near r n);
-            joined_before = λ q i w last r n. g.joined_before q i w last r (near r n);
+            joined_before = λ top q i at_last w last r n. g.joined_before top q i at_last w last r (near r n);
           };
         }
       where

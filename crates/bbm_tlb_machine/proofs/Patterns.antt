@@ -4,21 +4,21 @@ use Rattle.bbm_rules.proofs.Common.{◌≡◌, ◌⊎◌, ℕ, suc, ◌<◌, ◌
 use Rattle.bbm_rules.proofs.Common.{Some, None, Contains, refl, sym, ◌∙◌, ap, subst, inl, inr, arith, true≢false}
 use Rattle.bbm_rules.proofs.Common.{and_parts, Kind, read_through, tag_of, takes_whole_tag, taken, Cover, Half, Second}
 use Rattle.bbm_rules.proofs.Common.{Full, EntryKind, Combined, keeps, Trust, note, noted, ValidWrite, last_valid, Noted}
-use Rattle.bbm_rules.proofs.Common.{events_of, Answer, HalfBy, IsLastValid, Publication, Heading, S2, Tag}
+use Rattle.bbm_rules.proofs.Common.{Bool, events_of, Answer, IsLastValid, Publication, Heading, S2, Tag}
 use Rattle.bbm_rules.proofs.Common.{Event, Dsb, Tlbi, Issued, reaches, vmid_of, Open, TakenAway}
 use Rattle.bbm_rules.proofs.Common.{itself, takes_tag}
 use Rattle.std.proofs.lemmas.List.{append_assoc}
-use Rattle.bbm_rules.specs.PatternSentences.{Flush}
 use Rattle.bbm_tlbi_scope.specs.Numbers.{lacks_vmid as scope_lacks_vmid}
 use Rattle.bbm_tlbi_scope.specs.ScopeTags.{whole_tag_by}
 use Rattle.bbm_tlbi_scope.specs.declared.scope.Scope.{Scope}
 use Rattle.bbm_tlb_machine.specs.Entry.{Entry, Part, age_by, head_of, is_given_up, parts_of, tag_of_entry}
 use Rattle.bbm_tlb_machine.specs.Invariant.{Fine, Goes, IsNear, JoinedBefore, MadeBefore, Tagged, Taken, Unanswered}
-use Rattle.bbm_tlb_machine.specs.Invariant.{Rooted, Uncleansed}
 use Rattle.bbm_tlb_machine.specs.FineSteps.{LeavesIt}
+use Rattle.bbm_tlb_machine.specs.Invariant.{FlushAs, HalfAs, Rooted, Uncleansed, grade}
 use Rattle.bbm_tlb_machine.specs.KnownOfMachine.{Known}
 use Rattle.bbm_tlb_machine.specs.Step.{must_go}
-use Rattle.bbm_tlb_machine.proofs.AfterEvent.{AnswersNow, answer_after, half_before, last_step, no_answer}
+use Rattle.bbm_tlb_machine.proofs.Grades.{half_before}
+use Rattle.bbm_tlb_machine.proofs.AfterEvent.{AnswersNow, answer_after, last_step, no_answer}
 use Rattle.bbm_tlb_machine.proofs.AfterEvent.{no_publication, publication_after}
 use Rattle.bbm_histories.proofs.Induction.{events_length}
 use Rattle.bbm_tlb_machine.proofs.Scopes.{Scoped, must_go_by, scoped, through_s2, whole_age}
@@ -30,8 +30,8 @@ s2_if_combined kind e = absurd (true≢false (sym e))
 
 module _ (heading : Heading) where
   -- what answers a TLBI after fewer events flushes after them
-  flush_of : {cover : Cover} {place p : ℕ} {more since : List Noted} {t : Issued Noted} {d : Noted}
-      → Flush heading cover place p more t d → Answer since t d → Flush heading cover place p since t d
+  flush_of : {top : Bool} {cover : Cover} {place p : ℕ} {more since : List Noted} {t : Issued Noted} {d : Noted}
+      → FlushAs top heading cover place p more t d → Answer since t d → FlushAs top heading cover place p since t d
   flush_of f a = record { answer = a; reached = f.reached; covered = f.covered }
 
   -- a TLBI that takes a whole tag
@@ -129,11 +129,11 @@ module _ (heading : Heading) (trust : Trust) (k : Known heading trust) (h : List
       ]
 
   -- a TLBI that is answered now, and covers the place of a part so far, is among those that the entry would have to leave for
-  module _ (part : Part) (i : Contains (parts_of x) part) (v : ValidWrite)
+  module _ (top : Bool) (part : Part) (i : Contains (parts_of x) part) (at_last : top ≡ true → x.last ≡ part) (v : ValidWrite)
       (last : last_valid part.kind part.level part.place (noted heading trust h) ≡ Some v) (p : ℕ) (near : IsNear heading x p)
       (t : Issued Noted) (d : Noted) (a : AnswersNow (note heading trust (noted heading trust h) e) v.since t d)
       (reached : reaches heading t.tlbi.event p ≡ true) where
-    unanswered_by : (cover : Cover) → t.tlbi.covers part.place ≡ cover → Unanswered heading trust h cover part.place p v.since t
+    unanswered_by : (cover : Cover) → grade top t.tlbi part.place ≡ cover → Unanswered heading trust h top cover part.place p v.since t
     unanswered_by cover covered =
         let w : IsLastValid part.kind part.level part.place (noted heading trust h) v
         = k.last_valid.sound part.kind part.level part.place (noted heading trust h) v last in
@@ -147,36 +147,36 @@ module _ (heading : Heading) (trust : Trust) (k : Known heading trust) (h : List
               ∙ append_assoc a.is_open.newer (t.tlbi ∷ t.before) (w.write ∷ w.older));
         }
 
-    stays : (cover : Cover) (covered : t.tlbi.covers part.place ≡ cover)
+    stays : (cover : Cover) (covered : grade top t.tlbi part.place ≡ cover)
         → Goes heading trust h x t.tlbi (unanswered_by cover covered).older → ⊥
     unfolding unanswered_by
     stays cover covered must =
-        let u : Unanswered heading trust h cover part.place p v.since t = unanswered_by cover covered in
+        let u : Unanswered heading trust h top cover part.place p v.since t = unanswered_by cover covered in
         let plain : Issued Event = record { tlbi = t.tlbi.event; before = events_of u.older } in
         true≢false (sym must ∙ none a.q a.dsb a.barrier plain
-        (k.answered.complete a.q h plain (open_among heading trust k h cover part.place p v.since t u)) a.completed)
+        (k.answered.complete a.q h plain (open_among heading trust k h top cover part.place p v.since t u)) a.completed)
 
-    full_stays : (b : Noted) → Publication heading part.place p t.before b → t.tlbi.covers part.place ≡ Full → ⊥
+    full_stays : (b : Noted) → Publication heading part.place p t.before b → grade top t.tlbi part.place ≡ Full → ⊥
     full_stays b published covered =
-        stays Full covered (its.full part i v last p near b t published (unanswered_by Full covered))
+        stays Full covered (its.full top part i at_last v last p near b t published (unanswered_by Full covered))
 
-    half_stays : (b : Noted) → Publication heading part.place p t.before b → t.tlbi.covers part.place ≡ Half
+    half_stays : (b : Noted) → Publication heading part.place p t.before b → grade top t.tlbi part.place ≡ Half
         → (x.kind ≡ Combined) × (x.joined < d.position)
     half_stays b published covered =
-        elim (through_s2 x.kind (half_through heading trust k h kept x f up g part i v last p near b t published (unanswered_by Half covered))) [
+        elim (through_s2 x.kind (half_through heading trust k h kept x f up g top part i at_last v last p near b t published (unanswered_by Half covered))) [
           | inl stage2 ↦
-              absurd (stays Half covered (its.half stage2 part i v last p near b t published (unanswered_by Half covered)))
+              absurd (stays Half covered (its.half stage2 top part i at_last v last p near b t published (unanswered_by Half covered)))
           | inr combined ↦
               let position : d.position ≡ suc (length (noted heading trust h)) = ap (λ (n : Noted). n.position) a.is in
               (combined, omega (arith, position, count, f.shape.joined))
         ]
 
-    rest_stays : (b : Noted) (t1 : Issued Noted) (d1 : Noted) → HalfBy heading part.place p t.before b t1 d1
-        → t.tlbi.covers part.place ≡ Second → ⊥
+    rest_stays : (b : Noted) (t1 : Issued Noted) (d1 : Noted) → HalfAs top heading part.place p t.before b t1 d1
+        → grade top t.tlbi part.place ≡ Second → ⊥
     rest_stays b t1 d1 first covered =
-        let joined = g.joined_before part i v last p near b t1 d1
-        (half_before heading trust k part.place p a.q v.since t b t1 d1 a.is_open first) in
-        stays Second covered (its.rest joined.0 part i v last p near b t1 d1 t first (unanswered_by Second covered))
+        let joined = g.joined_before top part i at_last v last p near b t1 d1
+        (half_before top heading part.place p a.q v.since t b t1 d1 a.is_open first) in
+        stays Second covered (its.rest joined.0 top part i at_last v last p near b t1 d1 t first (unanswered_by Second covered))
 
   -- the event answers the TLBI, or it was answered before it
   answered_when : (part : Part) (w : ValidWrite) → last_valid part.kind part.level part.place (noted heading trust (e ∷ h)) ≡ Some w
@@ -194,23 +194,23 @@ module _ (heading : Heading) (trust : Trust) (k : Known heading trust) (h : List
       ]
 
   pub joined_before_after : JoinedBefore heading trust (e ∷ h) x
-  joined_before_after part i w last p near b t d half =
+  joined_before_after top part i at_last w last p near b t d half =
       elim (answered_when part w last t d half.flush.answer) [
-        | inl v ↦ half_stays part i v.0 v.1 p near t d v.2 half.flush.reached b half.published half.flush.covered
-        | inr v ↦ g.joined_before part i v.0 v.1 p near b t d (record { flush = flush_of heading half.flush v.2; published = half.published })
+        | inl v ↦ half_stays top part i at_last v.0 v.1 p near t d v.2 half.flush.reached b half.published half.flush.covered
+        | inr v ↦ g.joined_before top part i at_last v.0 v.1 p near b t d (record { flush = flush_of heading half.flush v.2; published = half.published })
       ]
 
   pub uncleansed_after : Uncleansed heading trust (e ∷ h) x
-  uncleansed_after part i w last p near (inl one) =
+  uncleansed_after top part i at_last w last p near (inl one) =
       elim (answered_when part w last one.t one.d one.flush.answer) [
-        | inl v ↦ full_stays part i v.0 v.1 p near one.t one.d v.2 one.flush.reached one.b one.published one.flush.covered
-        | inr v ↦ g.uncleansed part i v.0 v.1 p near (inl
-            (record { b = one.b; t = one.t; d = one.d; published = one.published; flush = flush_of heading one.flush v.2; allowed = one.allowed }))
+        | inl v ↦ full_stays top part i at_last v.0 v.1 p near one.t one.d v.2 one.flush.reached one.b one.published one.flush.covered
+        | inr v ↦ g.uncleansed top part i at_last v.0 v.1 p near (inl
+            (record { b = one.b; t = one.t; d = one.d; published = one.published; flush = flush_of heading one.flush v.2 }))
       ]
-  uncleansed_after part i w last p near (inr two) =
+  uncleansed_after top part i at_last w last p near (inr two) =
       elim (answered_when part w last two.t2 two.d2 two.second.answer) [
-        | inl v ↦ rest_stays part i v.0 v.1 p near two.t2 two.d2 v.2 two.second.reached two.b two.t1 two.d1 two.first two.second.covered
-        | inr v ↦ g.uncleansed part i v.0 v.1 p near (inr (record {
+        | inl v ↦ rest_stays top part i at_last v.0 v.1 p near two.t2 two.d2 v.2 two.second.reached two.b two.t1 two.d1 two.first two.second.covered
+        | inr v ↦ g.uncleansed top part i at_last v.0 v.1 p near (inr (record {
           b = two.b;
           t1 = two.t1;
           d1 = two.d1;
@@ -218,6 +218,5 @@ module _ (heading : Heading) (trust : Trust) (k : Known heading trust) (h : List
           d2 = two.d2;
           first = two.first;
           second = flush_of heading two.second v.2;
-          allowed = two.allowed;
         }))
       ]

@@ -9,7 +9,7 @@ use Rattle.bbm_tlb_machine.specs.Invariant.{Chained, IsBelow}
 use Rattle.bbm_tlb_machine.proofs.Descs.{pages_below, some_pages}
 
 -- what holds of the last part, and of each part that is above one of which it holds, holds of all of them
-all_chained : (P : Part → Type 0) (part : Part) (above : List Part) → Chained part above
+pub all_chained : (P : Part → Type 0) (part : Part) (above : List Part) → Chained part above
     → ((lower upper : Part) → Contains (part ∷ above) lower → IsBelow lower upper → P lower → P upper)
     → P part → (q : Part) → Contains (part ∷ above) q → P q
 all_chained P part [] c step first q i =

@@ -20,6 +20,8 @@ use Rattle.bbm_tlbi_scope.specs.Decode.{canonical, granule_known, range_canonica
 use Rattle.bbm_tlbi_scope.specs.Numbers.{lacks_vmid as scope_lacks_vmid}
 use Rattle.bbm_tlbi_scope.specs.Operations.{family_of}
 use Rattle.bbm_tlbi_scope.specs.ScopeTags.{whole_tag_by}
+use Rattle.bbm_rules.specs.Covers.{top_at}
+use Rattle.bbm_tlbi_scope.specs.ScopeCovers.{at_end}
 use Rattle.bbm_rules.specs.Prelude.{Kind}
 use Rattle.bbm_tlb_machine.specs.Entry.{Entry, age_by, head_of}
 use Rattle.bbm_tlb_machine.specs.Step.{must_go}
@@ -154,6 +156,17 @@ module _ (heading : Heading) (trust : Trust) where
       (λ (o : Option Scope). unwrap_or (o >>= (λ (s : Scope). Some (cover_of s (vmid_of heading (events_of older) pe) v))) NoCover ≡ cover)
       (λ k. some (sym k)) (λ scope k. k) (rw seen at c)
   covers_by older e place v cover seen some c = absurd (some (sym c))
+
+module _ (heading : Heading) (trust : Trust) where
+  -- so it is with a top cover, of the place as one sees it of whose table nothing is held below
+  pub tops_by : (older : List Noted) (e : Event) (place : ℕ) (v : PlaceView) (cover : Cover)
+      → view_at heading trust older place ≡ Some v → (cover ≡ NoCover → ⊥) → top_at heading trust older e place ≡ cover
+      → CoversBy heading older e (at_end v) cover
+  tops_by older (Tlbi pe op xt) place v cover seen some c =
+      scoped heading (events_of older) pe op xt _
+      (λ (o : Option Scope). unwrap_or (o >>= (λ (s : Scope). Some (cover_of s (vmid_of heading (events_of older) pe) (at_end v)))) NoCover ≡ cover)
+      (λ k. some (sym k)) (λ scope k. k) (rw seen at c)
+  tops_by older e place v cover seen some c = absurd (some (sym c))
 
 -- ---- a TLBI that must have taken an entry
 

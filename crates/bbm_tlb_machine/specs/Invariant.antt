@@ -1,7 +1,7 @@
 -- What is true of each entry that some TLB keeps, in each run over a log that keeps the rules, point by point. Here `h`
 -- are the events taken so far, newest first. `law_fine` says that it is so, and `law_safe` stands on it.
 -- Source: project's own choice.
-use Rattle.std.specs.Prelude.{◌≡◌, ℕ, suc, ◌+◌, ◌*◌, ◌<◌, ◌≤◌, ◌⊎◌, true, false, List, [], ◌∷◌, ◌++◌, length, Some}
+use Rattle.std.specs.Prelude.{◌≡◌, ℕ, suc, ◌+◌, ◌*◌, ◌<◌, ◌≤◌, ◌⊎◌, Bool, true, false, List, [], ◌∷◌, ◌++◌, length, Some}
 use Rattle.std.specs.Prelude.{Contains}
 use Rattle.bbm_descriptor.specs.Descriptor.{is_valid, needs}
 use Rattle.bbm_tlbi_scope.specs.Agreement.{read_through}
@@ -12,7 +12,7 @@ use Rattle.bbm_rules.specs.Claims.{Trust}
 use Rattle.bbm_rules.specs.Covers.{noted}
 use Rattle.bbm_rules.specs.Held.{ValidWrite, held, last_valid}
 use Rattle.bbm_rules.specs.Notes.{Noted, event_of, events_of}
-use Rattle.bbm_rules.specs.PatternSentences.{Cleansed, HalfBy, Publication}
+use Rattle.bbm_rules.specs.PatternSentences.{Answer, Publication}
 use Rattle.bbm_rules.specs.Places.{index_of, page_of}
 use Rattle.bbm_rules.specs.Prelude.{Heading, Kind, Ttbr0, Event, first_input_page, input_pages, start_of}
 use Rattle.bbm_rules.specs.Reach.{Issued, reaches}
@@ -22,6 +22,44 @@ use Rattle.bbm_rules.specs.Tree.{Node, next_of, nodes_of_pages, region_start, tr
 use Rattle.bbm_tlbi_scope.specs.Takes.{is_global_leaf}
 use Rattle.bbm_tlb_machine.specs.Entry.{Entry, Part, head_of, is_given_up, parts_of, tag_of_entry}
 use Rattle.bbm_tlb_machine.specs.Step.{must_go}
+
+-- ---- covers and patterns, as the entries see them that were read through a place, and as those that end there
+
+-- How far an event covers a place: as its cover says or, of what ends there, as its top cover says.
+abbrev pub grade : Bool → Noted → ℕ → Cover
+grade false n = n.covers
+grade true n = n.tops
+
+-- The patterns of half and cleansed, by covers or, where `top` is true, by top covers; at whatever positions.
+module _ (top : Bool) (heading : Heading) where
+  -- t is a TLBI that reaches p and covers the place so far, and d answers it
+  pub record FlushAs (cover : Cover) (place p : ℕ) (since : List Noted) (t : Issued Noted) (d : Noted) : Type 0 where
+    pub answer : Answer since t d
+    pub reached : reaches heading t.tlbi.event p ≡ true
+    pub covered : grade top t.tlbi place ≡ cover
+
+  pub record HalfAs (place p : ℕ) (since : List Noted) (b : Noted) (t : Issued Noted) (d : Noted) : Type 0 where
+    pub flush : FlushAs Half place p since t d
+    pub published : Publication heading place p t.before b
+
+  pub record OneStepAs (place p : ℕ) (since : List Noted) : Type 0 where
+    pub b : Noted
+    pub t : Issued Noted
+    pub d : Noted
+    pub published : Publication heading place p t.before b
+    pub flush : FlushAs Full place p since t d
+
+  pub record TwoStepsAs (place p : ℕ) (since : List Noted) : Type 0 where
+    pub b : Noted
+    pub t1 : Issued Noted
+    pub d1 : Noted
+    pub t2 : Issued Noted
+    pub d2 : Noted
+    pub first : HalfAs place p t2.before b t1 d1
+    pub second : FlushAs Second place p since t2 d2
+
+  abbrev pub CleansedAs : ℕ → ℕ → List Noted → Type 0
+  CleansedAs place p since = OneStepAs place p since ⊎ TwoStepsAs place p since
 
 -- ---- the shape of an entry
 
@@ -88,12 +126,12 @@ module _ (heading : Heading) where
       pub same_core : needs part.kind part.level value part.value ≡ false
 
     -- Unanswered: no DSB has answered the TLBI yet. It came after the last valid write of the place, it reaches p, and
-    -- it covers the place so far. All that came before it is `older`.
-    pub record Unanswered (cover : Cover) (place p : ℕ) (since : List Noted) (t : Issued Noted) : Type 0 where
+    -- it covers the place, or what ends there, so far. All that came before it is `older`.
+    pub record Unanswered (top : Bool) (cover : Cover) (place p : ℕ) (since : List Noted) (t : Issued Noted) : Type 0 where
       pub q : ℕ
       pub is_open : Open event_of q since t
       pub reached : reaches heading t.tlbi.event p ≡ true
-      pub covered : t.tlbi.covers place ≡ cover
+      pub covered : grade top t.tlbi place ≡ cover
       pub older : List Noted
       pub whole : noted heading trust h ≡ is_open.newer ++ t.tlbi ∷ older
 
@@ -104,20 +142,26 @@ module _ (heading : Heading) where
         → last_valid part.kind part.level part.place (noted heading trust h) ≡ Some w → (p : ℕ) → IsNear x p
         → Says part.place p w.since
 
-    -- Not cleansed: no place of a part is cleansed.
+    -- so it does by covers; and of the place of the last part, where the entry ends, by top covers
+    abbrev pub ByGrades : (Bool → ℕ → ℕ → List Noted → Type 0) → Type 0
+    ByGrades Says = (top : Bool) (part : Part) → Contains (parts_of x) part → (top ≡ true → x.last ≡ part)
+        → (w : ValidWrite) → last_valid part.kind part.level part.place (noted heading trust h) ≡ Some w → (p : ℕ)
+        → IsNear x p → Says top part.place p w.since
+
+    -- Not cleansed: no place of a part is cleansed, and that of the last part isn't above.
     abbrev pub Uncleansed : Type 0
-    Uncleansed = AtParts (λ place p since. Cleansed heading trust place p since → ⊥)
+    Uncleansed = ByGrades (λ top place p since. CleansedAs top heading place p since → ⊥)
 
     -- Made before: the entry was made before any barrier that publishes a write of a part's place, after the last valid
     -- one.
     abbrev pub MadeBefore : Type 0
     MadeBefore = AtParts (λ place p since. (b : Noted) → Publication heading place p since b → x.since < b.position)
 
-    -- Half: where the place of a part is half, the entry combines the stages, and was joined before the first step was
-    -- answered.
+    -- Half: where the place of a part is half, or that of the last part is so by top covers, the entry combines the
+    -- stages, and was joined before the first step was answered.
     abbrev pub JoinedBefore : Type 0
-    JoinedBefore = AtParts (λ place p since. (b : Noted) (t : Issued Noted) (d : Noted)
-        → HalfBy heading place p since b t d → (x.kind ≡ Combined) × (x.joined < d.position))
+    JoinedBefore = ByGrades (λ top place p since. (b : Noted) (t : Issued Noted) (d : Noted)
+        → HalfAs top heading place p since b t d → (x.kind ≡ Combined) × (x.joined < d.position))
 
     -- Tag: at a PE near, the entry's tag was readable for its root when the entry was made, and no TLBI since takes it
     -- away. So the tag is kept for the root's page: the root holds it, or it was given up since and left it.
@@ -152,13 +196,14 @@ module _ (heading : Heading) where
 
     -- Taken: an unanswered TLBI takes the entry where, behind a barrier that publishes a write of a part's place, it
     -- covers the place in full; where it covers it half, if the entry is one of stage 2; and where the place was half
-    -- before it and it covers the rest, if the entry combines the stages. It follows from the points of `Fine`, while
-    -- the entry's root wasn't given up since.
+    -- before it and it covers the rest, if the entry combines the stages. So it is with the place of the last part by top
+    -- covers. It follows from the points of `Fine`, while the entry's root wasn't given up since.
     pub record Taken : Type 0 where
-      pub full : AtParts (λ place p since. (b : Noted) (t : Issued Noted) → Publication heading place p t.before b
-          → (u : Unanswered trust h Full place p since t) → Goes t.tlbi u.older)
-      pub half : x.kind ≡ Stage2 → AtParts (λ place p since. (b : Noted) (t : Issued Noted)
-          → Publication heading place p t.before b → (u : Unanswered trust h Half place p since t) → Goes t.tlbi u.older)
-      pub rest : x.kind ≡ Combined → AtParts (λ place p since. (b : Noted) (t1 : Issued Noted) (d1 : Noted)
-          (t : Issued Noted) → HalfBy heading place p t.before b t1 d1 → (u : Unanswered trust h Second place p since t)
+      pub full : ByGrades (λ top place p since. (b : Noted) (t : Issued Noted) → Publication heading place p t.before b
+          → (u : Unanswered trust h top Full place p since t) → Goes t.tlbi u.older)
+      pub half : x.kind ≡ Stage2 → ByGrades (λ top place p since. (b : Noted) (t : Issued Noted)
+          → Publication heading place p t.before b → (u : Unanswered trust h top Half place p since t)
           → Goes t.tlbi u.older)
+      pub rest : x.kind ≡ Combined → ByGrades (λ top place p since. (b : Noted) (t1 : Issued Noted) (d1 : Noted)
+          (t : Issued Noted) → HalfAs top heading place p t.before b t1 d1
+          → (u : Unanswered trust h top Second place p since t) → Goes t.tlbi u.older)

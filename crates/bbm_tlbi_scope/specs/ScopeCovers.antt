@@ -74,3 +74,13 @@ cover_by _ _ fits s vmid v = NoCover
 abbrev pub cover_of : Scope → Option ℕ → PlaceView → Cover
 cover_of s vmid v =
     if lacks_vmid s.vmid_scoped vmid then NoCover else cover_by v.kind s.family (fits_place s v) s vmid v
+
+-- the place as one sees it of whose table nothing is held below
+abbrev pub at_end : PlaceView → PlaceView
+at_end v = record v { childless = true }
+
+-- How far a TLBI of this scope, under this VMID, covers what ends at the place: its top cover. It is its cover where a
+-- held table counts as childless: the interval of the scope has to meet the region of the table, and not to name all of
+-- it. A scope for the last level alone, or with a level hint, covers nothing that ends in a table.
+abbrev pub top_of : Scope → Option ℕ → PlaceView → Cover
+top_of s vmid v = cover_of s vmid (at_end v)

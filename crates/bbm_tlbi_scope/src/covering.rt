@@ -91,3 +91,19 @@ pub fn cover(scope: Scope, vmid: Option<u16>, view: PlaceView) -> Cover
         },
     }
 }
+
+/// How far a TLBI of this scope, under this VMID, covers what ends at the place; `None` as for `cover`. Source: Arm ARM
+/// (DDI 0487), "TLB maintenance instructions"; that a TLBI with a level hint covers nothing that ends in a table is the
+/// project's own choice.
+pub fn top_cover(scope: Scope, vmid: Option<u16>, view: PlaceView) -> Cover
+    ensures { result ≡ covering.top_of scope vmid view }
+{
+    cover(
+        scope,
+        vmid,
+        PlaceView {
+            childless: true,
+            ..view
+        },
+    )
+}

@@ -11,7 +11,7 @@ ghost use Rattle.bbm_tlbi_scope.specs.declared.entry.PlaceView.{PlaceView};
 ghost use Rattle.bbm_tlbi_scope.specs.declared.entry.Cover.{Cover};
 ghost use Rattle.bbm_tlbi_scope.specs.declared.entry.Cover.TheVariants.{None as NoCover, Half, Second, Full};
 ghost use Rattle.bbm_tlbi_scope.specs.Agreement.{Agrees, EndsAlone, IsCoverFor, read_through, tag_of};
-ghost use Rattle.bbm_tlbi_scope.specs.ScopeCovers.{cover_of};
+ghost use Rattle.bbm_tlbi_scope.specs.ScopeCovers.{at_end, cover_of, top_of};
 ghost use Rattle.bbm_tlbi_scope.specs.Ranges.{IsOver, AtSomePage, at_page, is_lowest};
 ghost use Rattle.bbm_tlbi_scope.specs.ScopeTags.{takes_whole_tag};
 ghost use Rattle.bbm_tlbi_scope.specs.Takes.{taken, is_global_leaf};
@@ -35,6 +35,17 @@ pub fn law_cover_takes()
 pub fn law_taken_is_covered()
     ensures { (s : Scope) (vmid : Option ℕ) (e : EntryHead) (v : PlaceView) →
         EndsAlone s.family e v → taken s vmid e ≡ true → IsCoverFor e.kind (cover_of s vmid v) }
+{}
+
+/// What covers the end of a place takes the entries that end there: in the leaf that it holds, or in its table. The call
+/// does nothing; the law is its contract.
+pub fn law_top_takes()
+    ensures full { (s : Scope) (vmid : Option ℕ) (e : EntryHead) (v : PlaceView) →
+        Agrees e (at_end v) → top_of s vmid v ≡ Full → taken s vmid e ≡ true }
+    ensures half { (s : Scope) (vmid : Option ℕ) (e : EntryHead) (v : PlaceView) →
+        Agrees e (at_end v) → e.kind ≡ Stage2 → top_of s vmid v ≡ Half → taken s vmid e ≡ true }
+    ensures second { (s : Scope) (vmid : Option ℕ) (e : EntryHead) (v : PlaceView) →
+        Agrees e (at_end v) → e.kind ≡ Combined → top_of s vmid v ≡ Second → taken s vmid e ≡ true }
 {}
 
 /// A TLBI that takes a whole tag takes each entry of the tag, where no entry of the lower range ends in a

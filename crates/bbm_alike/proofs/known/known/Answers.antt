@@ -8,6 +8,7 @@ returns c heading = record {
   equality_tests = c.law_equality_tests.ensures;
   fresh_content = c.law_fresh_content.ensures heading;
   half = c.law_half.ensures heading;
+  held = c.law_held.ensures heading;
   held_step = c.law_held_step.ensures heading;
   last_valid = c.law_last_valid.ensures;
   notes_keep_the_events = c.law_notes_keep_the_events.ensures heading;
@@ -17,5 +18,6 @@ returns c heading = record {
   seen = c.law_seen.ensures heading;
   tag_kept = c.law_tag_kept.ensures heading;
   tag_steps = c.law_tag_steps.ensures heading;
+  tree_step = c.law_tree_step.ensures heading;
   tree = c.law_tree.ensures heading;
 }

@@ -1,3 +1,5 @@
+use Rattle.bbm_rules.proofs.EmptiedLaw.{emptied_complete, emptied_sound, emptied_stays, emptied_step}
+use Rattle.bbm_rules.proofs.Emptied.{emptied_seen}
 use Rattle.bbm_rules.proofs.HeldLaw.{held_complete, held_sound, live_is_held, valid_if_held}
 use Rattle.bbm_rules.proofs.history_laws.law_held.Goals as goal
 
@@ -7,4 +9,9 @@ returns c heading trust = record {
   complete = held_complete heading trust;
   valid = valid_if_held heading trust;
   live = live_is_held heading trust;
+  emptied_sound = emptied_sound heading trust;
+  emptied_complete = emptied_complete heading trust;
+  emptied_seen = λ kind level place h w p below e last. emptied_seen heading trust kind level place h w p below e last;
+  emptied_step = emptied_step heading trust;
+  emptied_stays = emptied_stays heading trust;
 }
