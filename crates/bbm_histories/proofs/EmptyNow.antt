@@ -1,8 +1,8 @@
 -- In a history that keeps the rules a place of a tree that holds something is never empty and above. So a place comes to
 -- be emptied by the DSB after which it first is so, and it says the same to ask that at DSBs or at every event.
-use Rattle.bbm_histories.proofs.Common.{Heading, Event, Write, Dsb, Below, Attaches, InTree}
-use Rattle.bbm_rules.proofs.Common.{◌≡◌, ℕ, suc, ◌<◌, Bool, true, false, List, [], ◌∷◌, ◌++◌, map, Option, Some, None}
-use Rattle.bbm_rules.proofs.Common.{refl, sym, ◌∙◌, ap, subst, inl, inr, true≢false, is_valid, keeps, Trust, seen, note}
+use Rattle.bbm_histories.proofs.Common.{Heading, Event, Dsb, Below, Attaches, InTree}
+use Rattle.bbm_rules.proofs.Common.{◌≡◌, ℕ, suc, ◌<◌, true, false, List, [], ◌∷◌, ◌++◌, map, Option, Some, None}
+use Rattle.bbm_rules.proofs.Common.{refl, sym, ◌∙◌, ap, subst, inl, inr, true≢false, keeps, Trust, seen, note}
 use Rattle.bbm_rules.proofs.Common.{noted, ValidWrite, held, last_valid, Noted, IsLastValid, page_of, Node, held_at}
 use Rattle.bbm_rules.proofs.Common.{next_of, node_below}
 use Rattle.bbm_rules.proofs.Emptied.{seen_topped}
@@ -13,7 +13,7 @@ use Rattle.bbm_barriers.specs.declared.Dsb.{Dsb as Barrier}
 use Rattle.bbm_histories.proofs.AttachedLemmas.{holds_present}
 use Rattle.bbm_histories.proofs.FreshLemmas.{holds_last}
 use Rattle.bbm_histories.proofs.HeldSteps.{IsDsb, cleansed_before, held_back, held_change, held_valid}
-use Rattle.bbm_histories.proofs.Induction.{Unbroken, throughout}
+use Rattle.bbm_histories.proofs.Induction.{Unbroken, none_split, throughout}
 use Rattle.bbm_histories.proofs.Invariants.{Invariants, invariants, none_at_start}
 use Rattle.bbm_histories.proofs.PatternLemmas.{cleansed_is_seen, last_one_before}
 use Rattle.bbm_histories.proofs.TreeSteps.{added, is_tracked, node_is}
@@ -54,14 +54,10 @@ module _ (heading : Heading) (trust : Trust) (b : Below heading trust) (late : e
             split = refl;
             is_barrier = is;
             empty = empty;
-            last = λ r v m after rest s. absurd (nothing m after rest s);
-            no_init = λ r m after rest s is. nothing m after rest s;
+            last = λ r v m after rest s. absurd (none_split after rest m s);
+            no_init = λ r m after rest s is. none_split after rest m s;
           }) in
           true≢false (sym gone ∙ (b.held.sound n.kind n.level place (x ∷ h) value holds).unemptied)
-        where
-          nothing : (m : Noted) (after rest : List Noted) → [] ≡ after ++ m ∷ rest → ⊥
-          nothing m [] rest s = cc
-          nothing m (y ∷ after) rest s = cc
 
       -- in a page that the event attaches nothing is seen
       at_attached : Attaches heading trust h e n → ⊥

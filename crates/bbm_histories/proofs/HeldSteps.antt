@@ -1,7 +1,7 @@
 -- What one more event does to what a place holds.
 use Rattle.bbm_histories.proofs.Common.{Heading, Event, Init, Write, Dsb, PageInUse, Holds, Below}
 use Rattle.bbm_rules.proofs.Common.{◌≡◌, ℕ, ◌<◌, ◌⊎◌, ◌||◌, Bool, true, false, cond, ◌==◌, List, [], ◌∷◌, ◌++◌, Option}
-use Rattle.bbm_rules.proofs.Common.{Some, None, option_and_then, refl, sym, ◌∙◌, ap, subst, inl, inr, true≢false}
+use Rattle.bbm_rules.proofs.Common.{Some, None, option_and_then, refl, sym, ◌∙◌, ap, subst, inl, inr, true≢false, false_from_ne_true}
 use Rattle.bbm_rules.proofs.Common.{eq-eqb, eqb-true, or_parts, Kind, is_valid, needs, Trust, note, held, if_so, Noted}
 use Rattle.bbm_rules.proofs.Common.{events_of, is_null, Cleansed, page_of, Node, held_at, in_tree, node_of, value_of}
 use Rattle.bbm_barriers.specs.declared.Dsb.{Dsb as Barrier}
@@ -41,12 +41,11 @@ module _ (heading : Heading) (trust : Trust) (b : Below heading trust) (kind : K
       k = b.held.sound kind level place (n ∷ h) value e
 
       not_yet : (m : Noted) (newer : List Noted) → k.since ≡ m ∷ newer
-          → n ∷ h ≡ (m ∷ newer) ++ k.last_write.write ∷ k.last_write.older
-          → (c : Bool) → emptied heading trust kind level place h ≡ c → c ≡ false
-      not_yet m newer is split false e = refl
-      not_yet m newer is split true e =
+          → n ∷ h ≡ (m ∷ newer) ++ k.last_write.write ∷ k.last_write.older → emptied heading trust kind level place h ≡ false
+      not_yet m newer is split =
           let first : m ≡ n = cc in
-          absurd (true≢false (sym (b.held.emptied_stays kind level place n h
+          false_from_ne_true (emptied heading trust kind level place h)
+          (λ e. true≢false (sym (b.held.emptied_stays kind level place n h
           (λ q v w. k.last_write.last q v m [] newer is (ap (λ (x : Noted). x.event) first ∙ w))
           (λ q w. k.last_write.no_init q m [] newer is (ap (λ (x : Noted). x.event) first ∙ w)) e) ∙ k.unemptied))
 
@@ -71,7 +70,7 @@ module _ (heading : Heading) (trust : Trust) (b : Below heading trust) (kind : K
         is_pe = k.is_pe;
         uncleansed = λ c. k.uncleansed (subst (λ (xs : List Noted). Cleansed heading trust place k.p xs) (sym is)
             (cleansed_stays heading trust place k.p (m ∷ []) newer c));
-        unemptied = not_yet m newer is split (emptied heading trust kind level place h) refl;
+        unemptied = not_yet m newer is split;
       }))
 
   pub held_valid : (h : List Noted) (value : ℕ) → held heading trust kind level place h ≡ Some value
@@ -105,16 +104,16 @@ module _ (heading : Heading) (trust : Trust) (b : Below heading trust) (kind : K
         p = k.p;
         is_pe = k.is_pe;
         uncleansed = λ c. k.uncleansed (cleansed_before heading trust place k.p n k.since leaves.no_dsb c);
-        unemptied = not_now k (emptied heading trust kind level place (n ∷ h)) refl;
+        unemptied = not_now k;
       })
     where
-      not_now : Holds heading trust kind level place h value → (c : Bool) → emptied heading trust kind level place (n ∷ h) ≡ c → c ≡ false
-      not_now k false e = refl
-      not_now k true e =
+      not_now : Holds heading trust kind level place h value → emptied heading trust kind level place (n ∷ h) ≡ false
+      not_now k =
+          false_from_ne_true (emptied heading trust kind level place (n ∷ h)) (λ e.
           elim (b.held.emptied_step kind level place n h e) [
-            | inl before ↦ absurd (true≢false (sym before ∙ k.unemptied))
-            | inr now ↦ absurd (leaves.no_dsb (now.0, now.1, now.2))
-          ]
+            | inl before ↦ true≢false (sym before ∙ k.unemptied)
+            | inr now ↦ leaves.no_dsb (now.0, now.1, now.2)
+          ])
 
       last : (k : Holds heading trust kind level place h value) (q v : ℕ) (x : Noted) (after before : List Noted)
           → n ∷ k.since ≡ after ++ x ∷ before → x.event ≡ Write q place v → is_valid kind level v ≡ false

@@ -3,13 +3,18 @@ use Rattle.bbm_histories.proofs.Common.{Heading, Event, Rule, Below}
 use Rattle.bbm_rules.specs.declared.rule.Rule.TheVariants.{TableMapped}
 use Rattle.bbm_rules.proofs.Common.{◌≡◌, Bool, true, false, List, [], ◌∷◌, ◌++◌, None, is_none, refl, ◌∙◌, ap}
 use Rattle.bbm_rules.proofs.Common.{and_from, and_parts, breaks, keeps, Trust, note, noted, Noted, events_of}
-use Rattle.bbm_rules.proofs.Common.{length, length-append, suc, sym, true≢false, arith, ℕ, ◌+◌, ◌≤◌}
+use Rattle.bbm_rules.proofs.Common.{length, length-append, suc, sym, true≢false, arith, ◌+◌, ◌≤◌}
 use Rattle.bbm_rules.specs.Broken.{broken}
 
 -- every rule but that on table pages, which asks the trees and what they hold, and says nothing of them
 abbrev pub is_of_trees : Rule → Bool
 is_of_trees TableMapped = false
 is_of_trees rule = true
+
+-- an empty list has no item
+pub none_split : {A : Type 0} (newer older : List A) (x : A) → [] ≡ newer ++ x ∷ older → ⊥
+none_split [] older x s = cc
+none_split (y ∷ newer) older x s = cc
 
 module _ (heading : Heading) (trust : Trust) where
   -- the event breaks none of these rules

@@ -8,11 +8,15 @@ use Rattle.bbm_rules.specs.declared.phase.Phase.{Phase}
 use Rattle.bbm_rules.specs.declared.phase.Phase.TheVariants.{Clean, Live}
 use Rattle.bbm_rules.specs.Held.{emptied}
 use Rattle.bbm_rules.specs.Phases.{phase_of}
+use Rattle.bbm_rules.proofs.HeldLemmas.{uncleansed}
 
 module _ (heading : Heading) (trust : Trust) (h : List Event) (place p : ℕ) where
+  abbrev emptied_at : Node → Bool
+  emptied_at n = emptied heading trust n.kind n.level place (noted heading trust h)
+
   -- whether nothing of the last valid write is held any more
   abbrev gone : Node → ValidWrite → Bool
-  gone n w = emptied heading trust n.kind n.level place (noted heading trust h) || cleansed_everywhere heading trust place w.since
+  gone n w = emptied_at n || cleansed_everywhere heading trust place w.since
 
   -- by the last valid write
   abbrev of_write : Node → ValidWrite → Option Phase
@@ -41,7 +45,7 @@ module _ (heading : Heading) (trust : Trust) (h : List Event) (place p : ℕ) wh
       go w false e = cc
 
       by : (o : Option ValidWrite)
-          → option_and_then (λ w. cond (gone n w) None (Some w.value)) o ≡ None
+          → option_and_then (uncleansed heading trust place (emptied_at n)) o ≡ None
           → of_last n o ≡ Clean
       by None e = refl
       by (Some w) e = go w (gone n w) e
@@ -53,7 +57,7 @@ module _ (heading : Heading) (trust : Trust) (h : List Event) (place p : ℕ) wh
   holding value n w k some last =
       phase_at (Some n) k ∙ (ap (of_last n) last
       ∙ go (gone n w)
-      (sym (ap (option_and_then (λ (x : ValidWrite). cond (gone n x) None (Some x.value))) last) ∙ some))
+      (sym (ap (option_and_then (uncleansed heading trust place (emptied_at n))) last) ∙ some))
     where
       go : (c : Bool) → cond c None (Some w.value) ≡ Some value
           → unwrap_or (cond c None (Some (cond (is_valid n.kind n.level (value_of h place)) Live (broken_phase heading trust place p w.since)))) Clean

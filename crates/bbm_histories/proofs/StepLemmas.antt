@@ -6,7 +6,7 @@ use Rattle.bbm_rules.proofs.Common.{Option, Some, None, option_and_then, refl, s
 use Rattle.bbm_rules.proofs.Common.{eq-eqb, le-leb, proved, Is, answers, Kind, is_valid, same_flag, operation, Half}
 use Rattle.bbm_rules.proofs.Common.{Barrier, Event, Init, Write, Dsb, Tlbi, Trust, Patterns, answered_where}
 use Rattle.bbm_rules.proofs.Common.{answers_one, cleansed, flushes, full_step, half, publishes_write, second_step, seen}
-use Rattle.bbm_rules.proofs.Common.{ValidWrite, cleansed_everywhere, held, last_valid, last_valid_after, later, any}
+use Rattle.bbm_rules.proofs.Common.{ValidWrite, held, last_valid, last_valid_after, later, any}
 use Rattle.bbm_rules.proofs.Common.{Noted, events_of, page_of, Issued, completes, left_open, reaches, unanswered}
 use Rattle.bbm_rules.proofs.Common.{itself, loses, read_since, reads_for_some, takes_tag, publishes_to, value_of}
 use Rattle.bbm_rules.proofs.Common.{or_middle}
@@ -18,6 +18,7 @@ use Rattle.bbm_histories.specs.HistorySteps.{cleansed_after, half_after, is_tlbi
 use Rattle.bbm_histories.specs.HistorySteps.{waits_after, wrote}
 use Rattle.bbm_histories.proofs.HeldSteps.{held_same}
 use Rattle.bbm_lemmas.proofs.Tests.{any_and, any_both, any_filter, any_never, any_or, any_same}
+use Rattle.bbm_rules.proofs.HeldLemmas.{uncleansed}
 use Rattle.bbm_rules.proofs.TagLaw.{unread_yet}
 
 -- ---- what waits
@@ -161,6 +162,10 @@ module _ (heading : Heading) (place p : ℕ) where
 -- ---- what a place holds
 
 module _ (heading : Heading) (trust : Trust) (b : Below heading trust) (kind : Kind) (level place : ℕ) (pes : 0 < heading.pes) where
+  -- what a valid write leaves held after these events
+  abbrev left_held : List Noted → ValidWrite → Option ℕ
+  left_held h = uncleansed heading trust place (emptied heading trust kind level place h)
+
   held_by : (e : Event) (n : Noted) (h : List Noted) → n.event ≡ e
       → held heading trust kind level place (n ∷ h) ≡ held_after heading trust kind level place e n h
   held_by (Write pe at value) n h change = by (at == place) (is_valid kind level value) refl refl
@@ -189,7 +194,7 @@ module _ (heading : Heading) (trust : Trust) (b : Below heading trust) (kind : K
       by : (c : Bool) → (page == page_of place) ≡ c
           → held heading trust kind level place (n ∷ h) ≡ cond c None (held heading trust kind level place h)
       by true c =
-          ap (option_and_then (λ w. cond (emptied heading trust kind level place (n ∷ h) || cleansed_everywhere heading trust place w.since) None (Some w.value)))
+          ap (option_and_then (left_held (n ∷ h)))
           (ap (λ (x : Event). last_valid_after kind level place x n (last_valid kind level place h)) change
           ∙ ap (λ (t : Bool). cond t None (later n (last_valid kind level place h))) c)
       by false c = held_same heading trust b kind level place n h (record {
@@ -199,13 +204,13 @@ module _ (heading : Heading) (trust : Trust) (b : Below heading trust) (kind : K
         no_dsb = λ k. let apart : Init pe page ≡ Dsb k.0 k.1 = sym change ∙ k.2 in cc;
       })
   held_by (Dsb pe dsb) n h change =
-      ap (option_and_then (λ w. cond (emptied heading trust kind level place (n ∷ h) || cleansed_everywhere heading trust place w.since) None (Some w.value)))
+      ap (option_and_then (left_held (n ∷ h)))
       (ap (λ (x : Event). last_valid_after kind level place x n (last_valid kind level place h)) change)
       ∙ one_more (last_valid kind level place h)
     where
       one_more : (o : Option ValidWrite)
-          → option_and_then (λ w. cond (emptied heading trust kind level place (n ∷ h) || cleansed_everywhere heading trust place w.since) None (Some w.value)) (later n o)
-          ≡ option_and_then (λ w. cond (emptied heading trust kind level place (n ∷ h) || cleansed_everywhere heading trust place (n ∷ w.since)) None (Some w.value)) o
+          → option_and_then (left_held (n ∷ h)) (later n o)
+          ≡ option_and_then (λ w. left_held (n ∷ h) (record w { since = n ∷ w.since })) o
       one_more None = refl
       one_more (Some w) = refl
   held_by e n h change = held_same heading trust b kind level place n h (record {

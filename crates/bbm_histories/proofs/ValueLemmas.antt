@@ -3,6 +3,7 @@ use Rattle.bbm_histories.proofs.Common.{Heading, Event, Init, Write, Dsb, Publis
 use Rattle.bbm_rules.proofs.Common.{◌≡◌, ℕ, ◌⊎◌, Bool, true, false, cond, ◌==◌, List, [], ◌∷◌, ◌++◌, refl, sym, ◌∙◌, ap}
 use Rattle.bbm_rules.proofs.Common.{inl, inr, eqb-true, or_parts, Trust, page_of, is_readable, published, value_of}
 use Rattle.bbm_rules.specs.Values.{publishes_for}
+use Rattle.bbm_histories.proofs.Induction.{none_split}
 use Rattle.bbm_histories.proofs.PatternLemmas.{later_split}
 
 module _ (heading : Heading) (trust : Trust) (b : Below heading trust) where
@@ -52,14 +53,10 @@ module _ (heading : Heading) (trust : Trust) (b : Below heading trust) where
               older = h;
               split = refl;
               had = old;
-              no_init = λ q after before s. none after (Init q (page_of place)) before s;
-              unreplaced = λ q w after before s. absurd (none after (Write q place w) before s);
+              no_init = λ q after before s. none_split after before (Init q (page_of place)) s;
+              unreplaced = λ q w after before s. absurd (none_split after before (Write q place w) s);
             }))
           ]
-        where
-          none : (after : List Event) (x : Event) (before : List Event) → [] ≡ after ++ x ∷ before → ⊥
-          none [] x before s = cc
-          none (y ∷ after) x before s = cc
       by (y ∷ newer) is split = inr (b.readable_value.complete h place p value (record {
         newer = newer;
         older = r.older;

@@ -5,12 +5,12 @@ use Rattle.bbm_rules.proofs.Common.{◌≡◌, ℕ, ◌<◌, ◌%◌, ◌⊎◌,
 use Rattle.bbm_rules.proofs.Common.{refl, sym, ◌∙◌, ap, subst, inl, inr, true≢false, eq-eqb, eqb-true, Kind, core_of}
 use Rattle.bbm_rules.proofs.Common.{is_valid, keeps, Trust, seen, note, noted, ValidWrite, held, last_valid, Noted}
 use Rattle.bbm_rules.proofs.Common.{events_of, is_fresh, IsLastValid, Publication, page_of, Node, held_at, is_readable}
-use Rattle.bbm_rules.proofs.Common.{published, value_of}
+use Rattle.bbm_rules.proofs.Common.{false_from_ne_true, published, value_of}
 use Rattle.bbm_rules.specs.Held.{emptied}
 use Rattle.bbm_histories.specs.ValueChanges.{Window}
 use Rattle.bbm_histories.proofs.CoreLemmas.{core_same}
 use Rattle.bbm_histories.proofs.HeldSteps.{init_outside, same_core}
-use Rattle.bbm_histories.proofs.Induction.{NotesSplit, Unbroken, events_append, notes_split, throughout}
+use Rattle.bbm_histories.proofs.Induction.{NotesSplit, Unbroken, events_append, none_split, notes_split, throughout}
 use Rattle.bbm_histories.proofs.Invariants.{Invariants, invariants, none_at_start}
 use Rattle.bbm_histories.proofs.PatternLemmas.{cleansed_is_seen, last_before, last_on, split_cases, write_in}
 use Rattle.bbm_histories.proofs.TreeSteps.{added, attached_fresh, is_tracked, node_is, not_fresh_there}
@@ -74,18 +74,14 @@ quiet_one kind level place x no_write no_init = record {
   no_init = λ q n after before s is. init q n after before s is;
 }
   where
-    nothing : (n : Noted) (after before : List Noted) → [] ≡ after ++ n ∷ before → ⊥
-    nothing n [] before s = cc
-    nothing n (y ∷ after) before s = cc
-
     write : (q v : ℕ) (n : Noted) (after before : List Noted) → x ∷ [] ≡ after ++ n ∷ before → n.event ≡ Write q place v
         → is_valid kind level v ≡ false
     write q v n [] before s is = let first : x ≡ n = cc in no_write q v (ap (λ (y : Noted). y.event) first ∙ is)
-    write q v n (y ∷ after) before s is = let rest : [] ≡ after ++ n ∷ before = cc in absurd (nothing n after before rest)
+    write q v n (y ∷ after) before s is = let rest : [] ≡ after ++ n ∷ before = cc in absurd (none_split after before n rest)
 
     init : (q : ℕ) (n : Noted) (after before : List Noted) → x ∷ [] ≡ after ++ n ∷ before → n.event ≡ Init q (page_of place) → ⊥
     init q n [] before s is = let first : x ≡ n = cc in no_init q (ap (λ (y : Noted). y.event) first ∙ is)
-    init q n (y ∷ after) before s is = let rest : [] ≡ after ++ n ∷ before = cc in nothing n after before rest
+    init q n (y ∷ after) before s is = let rest : [] ≡ after ++ n ∷ before = cc in none_split after before n rest
 
 module _ (heading : Heading) (trust : Trust) (b : Below heading trust) where
   -- a publication after the last valid write against a later moment at which the place had a valid value
@@ -163,12 +159,9 @@ module _ (heading : Heading) (trust : Trust) (b : Below heading trust) where
         is_pe = is_pe;
         uncleansed = λ c. true≢false
             (sym (b.seen.complete place p w.since (cleansed_is_seen heading trust place p w.since c)) ∙ unseen);
-        unemptied = by (emptied heading trust kind level place h) refl;
+        unemptied = false_from_ne_true (emptied heading trust kind level place h)
+            (λ e. true≢false (sym (b.held.emptied_seen kind level place h w p is_pe e last) ∙ unseen));
       })
-    where
-      by : (c : Bool) → emptied heading trust kind level place h ≡ c → c ≡ false
-      by false e = refl
-      by true e = absurd (true≢false (sym (b.held.emptied_seen kind level place h w p is_pe e last) ∙ unseen))
 
   -- a value that is readable in a fresh page, and valid, is the present one
   present_if_readable : (kind : Kind) (level place p value : ℕ) (h : List Noted) → OddStays heading trust h
@@ -219,13 +212,9 @@ module _ (heading : Heading) (trust : Trust) (b : Below heading trust) where
           split = refl;
           wrote = is;
           valid = valid_v;
-          last = λ q u x after before s. absurd (nothing x after before s);
-          no_init = λ q x after before s. absurd (nothing x after before s);
+          last = λ q u x after before s. absurd (none_split after before x s);
+          no_init = λ q x after before s. absurd (none_split after before x s);
         })
-      where
-        nothing : (x : Noted) (after before : List Noted) → [] ≡ after ++ x ∷ before → ⊥
-        nothing x [] before s = cc
-        nothing x (y ∷ after) before s = cc
 
     goes_on : ((q v : ℕ) → e ≡ Write q place v → is_valid n.kind n.level v ≡ false) → ((q : ℕ) → e ≡ Init q (page_of place) → ⊥)
         → LastLike h n place value → LastLike now n place value
