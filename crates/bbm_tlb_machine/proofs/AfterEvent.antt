@@ -1,11 +1,12 @@
 -- What one more event does to the last valid write of a place and to the patterns after it.
 use Rattle.bbm_rules.proofs.Common.{◌≡◌, ℕ, ◌⊎◌, ◌&&◌, Bool, true, false, cond, ◌==◌, List, [], ◌∷◌, ◌++◌, Some, None}
 use Rattle.bbm_rules.proofs.Common.{sym, ◌∙◌, ap, subst, inl, inr, bind_some, is_valid, Trust, ValidWrite, last_valid}
-use Rattle.bbm_rules.proofs.Common.{last_valid_after, later, Noted, Answer, HalfBy, Publication, page_of, Barrier}
+use Rattle.bbm_rules.proofs.Common.{last_valid_after, later, Noted, Answer, Publication, page_of, Barrier}
 use Rattle.bbm_rules.proofs.Common.{Heading, Event, Init, Write, Dsb, Issued, completes, Open}
 use Rattle.bbm_rules.specs.Notes.{event_of}
 use Rattle.bbm_rules.specs.Prelude.{Kind}
 use Rattle.bbm_tlb_machine.specs.KnownOfMachine.{Known}
+use Rattle.bbm_histories.proofs.Induction.{none_split}
 
 -- ---- the last valid write
 
@@ -61,10 +62,6 @@ publication_after heading place p n since b k = by k.newer k.split
       barrier = k.barrier;
       publishes = k.publishes;
     })
-
-none_split : (newer older : List Noted) (n : Noted) → [] ≡ newer ++ n ∷ older → ⊥
-none_split [] older n s = cc
-none_split (y ∷ newer) older n s = cc
 
 pub no_publication : (heading : Heading) (place p : ℕ) (b : Noted) → Publication heading place p [] b → ⊥
 no_publication heading place p b k = none_split k.newer (k.between ++ k.write ∷ k.older) b k.split

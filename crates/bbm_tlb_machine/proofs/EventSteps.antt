@@ -1,9 +1,10 @@
 -- An entry that is fine stays so after an event that breaks no rule and leaves it.
-use Rattle.bbm_rules.proofs.Common.{◌≡◌, ℕ, suc, ◌≤◌, true, false, cond, List, [], ◌∷◌, length, Option, Some, None}
-use Rattle.bbm_rules.proofs.Common.{Contains, refl, sym, ◌∙◌, ap, subst, inl, inr, arith, bind_some, Kind, needs}
-use Rattle.bbm_rules.proofs.Common.{tag_of, EntryHead, keeps, Trust, note, noted, ValidWrite, cleansed_everywhere, held}
-use Rattle.bbm_rules.proofs.Common.{last_valid, last_valid_after, later, IsLastValid, Heading, El2, S2, Ttbr0, Ttbr1}
-use Rattle.bbm_rules.proofs.Common.{Event, Dsb, Barrier, Noted, desc_of, is_root, held_at, next_in, next_of, page_of, contains_head}
+use Rattle.bbm_rules.proofs.Common.{◌≡◌, ℕ, suc, ◌≤◌, true, false, List, [], ◌∷◌, length, Option, Some, None}
+use Rattle.bbm_rules.proofs.Common.{Contains, refl, sym, ◌∙◌, ap, subst, inl, inr, arith, Kind, needs}
+use Rattle.bbm_rules.proofs.Common.{tag_of, EntryHead, keeps, Trust, note, noted, ValidWrite, held}
+use Rattle.bbm_rules.proofs.Common.{last_valid, last_valid_after, later, Heading, El2, S2, Ttbr0, Ttbr1}
+use Rattle.bbm_rules.proofs.Common.{Event, Dsb, Barrier, Noted, desc_of, is_root, held_at, next_in, next_of, page_of}
+use Rattle.bbm_rules.proofs.Common.{contains_head, false_from_ne_true}
 use Rattle.bbm_histories.specs.TagSteps.{kind_of_tag}
 use Rattle.bbm_histories.specs.TreeChanges.{HeldChange}
 use Rattle.bbm_rules.proofs.Common.{Bool, ◌&&◌, ◌||◌, nat_le, true≢false, gives_up}
@@ -16,7 +17,7 @@ use Rattle.bbm_tlb_machine.specs.Invariant.{Fine, Holding, IsAt, IsBelow, Rooted
 use Rattle.bbm_tlb_machine.specs.KnownOfMachine.{Known}
 use Rattle.bbm_tlb_machine.proofs.Descs.{no_need}
 use Rattle.bbm_tlb_machine.proofs.Facts.{held_there, held_valid, means, tag_now}
-use Rattle.bbm_tlb_machine.proofs.Grades.{above_as, cleansed_as}
+use Rattle.bbm_tlb_machine.proofs.Grades.{above_as, at_any, cleansed_as}
 use Rattle.bbm_tlb_machine.proofs.InTrees.{all_placed}
 use Rattle.bbm_tlb_machine.proofs.Patterns.{joined_before_after, made_before_after, tagged_after}
 use Rattle.bbm_tlb_machine.proofs.Patterns.{uncleansed_after}
@@ -52,15 +53,22 @@ module _ (heading : Heading) (trust : Trust) (k : Known heading trust) (h : List
     abbrev noted_now : Noted
     noted_now = note heading trust (noted heading trust h) e
 
+    -- after the event the place of the part is emptied
+    abbrev IsEmptied : Part → Type 0
+    IsEmptied part = emptied heading trust part.kind part.level part.place (noted heading trust (e ∷ h)) ≡ true
+
     module _ (part : Part) (i : Contains (parts_of x) part) where
       -- what the place held before
       held_before : Holds heading trust part.kind part.level part.place (noted heading trust h) (g.holding part i).value
       held_before = k.held.sound part.kind part.level part.place (noted heading trust h) (g.holding part i).value (g.holding part i).holds
 
-      -- after a DSB its last valid write is the same
+      -- its last valid write, with the event behind it
+      abbrev last_now : ValidWrite
+      last_now = record { value = (g.holding part i).value; since = noted_now ∷ held_before.since }
+
+      -- after a DSB that is the last valid write still
       same_last : (q : ℕ) (dsb : Barrier) → e ≡ Dsb q dsb
-          → last_valid part.kind part.level part.place (noted heading trust (e ∷ h))
-          ≡ Some (record { value = (g.holding part i).value; since = noted_now ∷ held_before.since })
+          → last_valid part.kind part.level part.place (noted heading trust (e ∷ h)) ≡ Some last_now
       same_last q dsb is =
           ap (λ (y : Event). last_valid_after part.kind part.level part.place y noted_now
           (last_valid part.kind part.level part.place (noted heading trust h))) is
@@ -69,8 +77,7 @@ module _ (heading : Heading) (trust : Trust) (k : Known heading trust) (h : List
           (record { value = (g.holding part i).value; since = held_before.since }) held_before.last_write)
 
       -- what is emptied now is empty, and the event is a DSB
-      emptied_now : emptied heading trust part.kind part.level part.place (noted heading trust (e ∷ h)) ≡ true
-          → (q : ℕ) × (dsb : Barrier) × (e ≡ Dsb q dsb) × EmptyAbove heading trust part.kind part.level part.place (noted heading trust (e ∷ h))
+      emptied_now : IsEmptied part → (q : ℕ) × (dsb : Barrier) × (e ≡ Dsb q dsb) × EmptyAbove heading trust part.kind part.level part.place (noted heading trust (e ∷ h))
       emptied_now gone =
           elim (k.held.emptied_step part.kind part.level part.place noted_now (noted heading trust h) gone) [
             | inl before ↦ absurd (true≢false (sym before ∙ held_before.unemptied))
@@ -78,30 +85,23 @@ module _ (heading : Heading) (trust : Trust) (k : Known heading trust) (h : List
           ]
 
       -- after a DSB the place still holds something where it isn't emptied, since it isn't cleansed at the entry's PE
-      still_held : (q : ℕ) (dsb : Barrier) → e ≡ Dsb q dsb
-          → emptied heading trust part.kind part.level part.place (noted heading trust (e ∷ h)) ≡ false
+      still_held : (q : ℕ) (dsb : Barrier) → e ≡ Dsb q dsb → (IsEmptied part → ⊥)
           → held heading trust part.kind part.level part.place (noted heading trust (e ∷ h)) ≡ None → ⊥
       still_held q dsb is stays gone =
-          let w : ValidWrite = record { value = (g.holding part i).value; since = noted_now ∷ held_before.since } in
-          let last : last_valid part.kind part.level part.place (noted heading trust (e ∷ h))
-          ≡ Some (record { value = (g.holding part i).value; since = noted_now ∷ held_before.since }) = same_last q dsb is in
-          let l : IsLastValid part.kind part.level part.place (noted heading trust (e ∷ h)) w
-          = k.last_valid.sound part.kind part.level part.place (noted heading trust (e ∷ h)) w last in
           let holds : held heading trust part.kind part.level part.place (noted heading trust (e ∷ h)) ≡ Some (g.holding part i).value
           = k.held.complete part.kind part.level part.place (noted heading trust (e ∷ h)) (g.holding part i).value (record {
-            since = w.since;
-            last_write = l;
+            since = last_now.since;
+            last_write = k.last_valid.sound part.kind part.level part.place (noted heading trust (e ∷ h)) last_now (same_last q dsb is);
             p = x.pe;
             is_pe = f.shape.is_pe;
-            uncleansed = λ c. uncleansed_after heading trust k h e kept_then x f up g none false part i (λ t. absurd (true≢false (sym t))) w last
-                x.pe (inl refl) (cleansed_as heading trust part.place x.pe w.since c);
-            unemptied = stays;
+            uncleansed = λ c. uncleansed_after heading trust k h e kept_then x f up g none false part i (at_any x part) last_now
+                (same_last q dsb is) x.pe (inl refl) (cleansed_as heading trust part.place x.pe last_now.since c);
+            unemptied = false_from_ne_true (emptied heading trust part.kind part.level part.place (noted heading trust (e ∷ h))) stays;
           }) in
           let apart : None ≡ Some (g.holding part i).value = sym gone ∙ holds in
           cc
 
-      holding_after : emptied heading trust part.kind part.level part.place (noted heading trust (e ∷ h)) ≡ false
-          → Holding heading trust (e ∷ h) part
+      holding_after : (IsEmptied part → ⊥) → Holding heading trust (e ∷ h) part
       holding_after stays = by (k.held_changes.changes h e k.proper.some_pe kept (g.placed part i).node part.place
           (g.placed part i).in_tree (g.placed part i).is_at.inside)
         where
@@ -136,25 +136,21 @@ module _ (heading : Heading) (trust : Trust) (k : Known heading trust) (h : List
           by (inr (inr d)) = absurd (still_held d.0 d.1 d.2 stays (there ∙ d.3))
 
     -- the place of the last part isn't emptied: it isn't above
-    last_stays : (b : Bool) → emptied heading trust x.last.kind x.last.level x.last.place (noted heading trust (e ∷ h)) ≡ b → b ≡ false
-    last_stays false gone = refl
-    last_stays true gone =
-        let now = emptied_now x.last (contains_head x.above x.last) gone in
-        let empty : EmptyAbove heading trust x.last.kind x.last.level x.last.place (noted heading trust (e ∷ h)) = now.3 in
-        absurd (uncleansed_after heading trust k h e kept_then x f up g none true x.last (contains_head x.above x.last) (λ t. refl)
+    last_stays : IsEmptied x.last → ⊥
+    last_stays gone =
+        let empty = (emptied_now x.last (contains_head x.above x.last) gone).3 in
+        uncleansed_after heading trust k h e kept_then x f up g none true x.last (contains_head x.above x.last) (λ t. refl)
         empty.w empty.is_last x.pe (inl refl)
-        (above_as heading trust x.last.place x.pe empty.w.since (empty.above x.pe f.shape.is_pe)))
+        (above_as heading trust x.last.place x.pe empty.w.since (empty.above x.pe f.shape.is_pe))
 
     -- nor is that of a part below which another was read, whose place still holds something
     upper_stays : (lower upper : Part) → Contains (parts_of x) upper → IsBelow lower upper → Holding heading trust (e ∷ h) lower
-        → (b : Bool) → emptied heading trust upper.kind upper.level upper.place (noted heading trust (e ∷ h)) ≡ b → b ≡ false
-    upper_stays lower upper i below holds false gone = refl
-    upper_stays lower upper i below holds true gone =
+        → IsEmptied upper → ⊥
+    upper_stays lower upper i below holds gone =
         let now = emptied_now upper i gone in
         let empty : EmptyAbove heading trust upper.kind upper.level upper.place (noted heading trust (e ∷ h)) = now.3 in
-        let both : Some empty.w ≡ Some (record { value = (g.holding upper i).value; since = noted_now ∷ (held_before upper i).since })
-        = sym empty.is_last ∙ same_last upper i now.0 now.1 now.2 in
-        let same : empty.w ≡ record { value = (g.holding upper i).value; since = noted_now ∷ (held_before upper i).since } = cc in
+        let both : Some empty.w ≡ Some (last_now upper i) = sym empty.is_last ∙ same_last upper i now.0 now.1 now.2 in
+        let same : empty.w ≡ last_now upper i = cc in
         let at : IsAt (g.placed upper i).node x.root upper = (g.placed upper i).is_at in
         let meaning : desc_of upper.kind upper.level (g.holding upper i).value ≡ desc_in upper
         = rw (at.kind, at.level) at (means heading trust k h kept_then x upper (g.placed upper i).node at (g.holding upper i) (f.shape.valid upper i)) in
@@ -171,8 +167,8 @@ module _ (heading : Heading) (trust : Trust) (k : Known heading trust) (h : List
     all_held : (part : Part) → Contains (parts_of x) part → Holding heading trust (e ∷ h) part
     all_held part i =
         all_chained (λ (q : Part). Contains (parts_of x) q → Holding heading trust (e ∷ h) q) x.last x.above f.shape.chained
-        (λ lower upper m below before j. holding_after upper j (upper_stays lower upper j below (before m) _ refl))
-        (λ j. holding_after x.last j (last_stays _ refl)) part i i
+        (λ lower upper m below before j. holding_after upper j (upper_stays lower upper j below (before m)))
+        (λ j. holding_after x.last j last_stays) part i i
 
     rooted_after : Rooted heading trust (e ∷ h) x
     rooted_after =

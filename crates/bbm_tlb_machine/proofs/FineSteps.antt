@@ -139,11 +139,11 @@ module _ (heading : Heading) (trust : Trust) (k : Known heading trust) where
           (publication_before heading trust k x.last.place s.p s.q s.w.since t s.b s.is_open s.told)
 
       abbrev seen : List Noted
-      seen = (view heading trust k h kept x f up (f.rooted up) false x.last here (λ e. absurd (true≢false (sym e))) s.w s.is_last s.p s.q s.near t s.is_open s.b s.told made).older
+      seen = (view heading trust k h kept x f up (f.rooted up) false x.last here (λ e. refl) s.w s.is_last s.p s.q s.near t s.is_open s.b s.told made).older
 
       same : seen ≡ older
       same =
-          let v = view heading trust k h kept x f up (f.rooted up) false x.last here (λ e. absurd (true≢false (sym e))) s.w s.is_last s.p s.q s.near t s.is_open s.b s.told made in
+          let v = view heading trust k h kept x f up (f.rooted up) false x.last here (λ e. refl) s.w s.is_last s.p s.q s.near t s.is_open s.b s.told made in
           let tails : t.tlbi ∷ v.older ≡ t.tlbi ∷ older
           = append_cancel_left s.is_open.newer (t.tlbi ∷ v.older) (t.tlbi ∷ older) (sym v.split ∙ s.whole) in
           cc
@@ -152,10 +152,10 @@ module _ (heading : Heading) (trust : Trust) (k : Known heading trust) where
       place = view_of heading trust false seen node x.last.place value
 
       agrees : Agrees (head_of x) place
-      agrees = agrees_then heading trust k h kept x f up (f.rooted up) false x.last here (λ e. absurd (true≢false (sym e))) s.w s.is_last s.p s.q s.near t s.is_open s.b s.told made
+      agrees = agrees_then heading trust k h kept x f up (f.rooted up) false x.last here (λ e. refl) s.w s.is_last s.p s.q s.near t s.is_open s.b s.told made
 
       viewed : view_at heading trust seen x.last.place ≡ Some place
-      viewed = view_then heading trust k h kept x f up (f.rooted up) false x.last here (λ e. absurd (true≢false (sym e))) s.w s.is_last s.p s.q s.near t s.is_open s.b s.told made
+      viewed = view_then heading trust k h kept x f up (f.rooted up) false x.last here (λ e. refl) s.w s.is_last s.p s.q s.near t s.is_open s.b s.told made
 
       by_scope : Scoped heading (events_of seen) t.tlbi.event (λ scope vmid. taken scope vmid (head_of x) ≡ true)
       by_scope =
@@ -164,7 +164,7 @@ module _ (heading : Heading) (trust : Trust) (k : Known heading trust) where
 
       covers_is : t.tlbi.covers x.last.place ≡ cover_of by_scope.scope (vmid_of heading (events_of seen) by_scope.pe) place
       covers_is =
-          let v = view heading trust k h kept x f up (f.rooted up) false x.last here (λ e. absurd (true≢false (sym e))) s.w s.is_last s.p s.q s.near t s.is_open s.b s.told made in
+          let v = view heading trust k h kept x f up (f.rooted up) false x.last here (λ e. refl) s.w s.is_last s.p s.q s.near t s.is_open s.b s.told made in
           ap (λ (c : ℕ → Cover). c x.last.place) (k.notes.each h s.is_open.newer v.older t.tlbi v.split).1
           ∙ cover_then heading trust seen t.tlbi.event x.last.place place
           (λ scope vmid. taken scope vmid (head_of x) ≡ true) by_scope viewed

@@ -1,10 +1,26 @@
--- Whether an entry's root was given up, after an event that gives none up.
-use Rattle.bbm_rules.proofs.Common.{◌≡◌, ℕ, Bool, false, ◌&&◌, ◌||◌, nat_le, List, ◌∷◌, length, ap, ◌∙◌, and-false, any}
-use Rattle.bbm_rules.proofs.Common.{Heading, Event, gives_up}
+-- Whether an entry's root was given up since a moment that is now, and after an event that gives none up.
+use Rattle.bbm_rules.proofs.Common.{◌≡◌, ℕ, suc, ◌+◌, ◌≤◌, arith, Bool, true, false, ◌&&◌, ◌||◌, nat_le, List, ◌∷◌, ◌++◌, length}
+use Rattle.bbm_rules.proofs.Common.{refl, ap, ◌∙◌, and-false, leb-true, length-append, any, Heading, Event, gives_up}
 use Rattle.bbm_lemmas.proofs.Tests.{any_same}
+use Rattle.bbm_rules.proofs.SearchLemmas.{is_none_before}
 use Rattle.bbm_rules.specs.Roots.{given_up_since}
 use Rattle.bbm_tlb_machine.specs.Entry.{Entry, is_given_up}
 use Rattle.bbm_tlb_machine.specs.MachineRun.{Living}
+
+-- nothing was given up since now
+pub not_yet : (u : Bool) (n page : ℕ) (h : List Event) → length h ≤ n → (u && given_up_since n page h) ≡ false
+not_yet true n page h le =
+    is_none_before (λ e before. nat_le n (length before) && gives_up page e) h
+    (λ newer e older s. too_early newer e older s (nat_le n (length older)) refl)
+  where
+    too_early : (newer : List Event) (e : Event) (older : List Event) → h ≡ newer ++ e ∷ older → (b : Bool) → nat_le n (length older) ≡ b
+        → (b && gives_up page e) ≡ false
+    too_early newer e older s true b =
+        let late : n ≤ length older = leb-true n (length older) b in
+        let long : length h ≡ length newer + suc (length older) = ap length s ∙ length-append newer (e ∷ older) in
+        absurd (omega (arith, late, long, le))
+    too_early newer e older s false b = refl
+not_yet false n page h le = refl
 
 up_before : (heading : Heading) (h : List Event) (e : Event) (x : Entry) → gives_up x.root e ≡ false
     → is_given_up heading (e ∷ h) x ≡ is_given_up heading h x

@@ -1,25 +1,14 @@
 -- The patterns by covers and by top covers: later events keep them, and they follow from the patterns of the rules.
-use Rattle.bbm_rules.proofs.Common.{◌≡◌, ◌⊎◌, ℕ, Bool, true, false, List, [], ◌∷◌, ◌++◌, map, refl, sym, ◌∙◌, ap, subst}
+use Rattle.bbm_rules.proofs.Common.{◌≡◌, ℕ, Bool, true, false, List, [], ◌∷◌, ◌++◌, map, refl, sym, ◌∙◌, ap, subst, true≢false}
 use Rattle.bbm_rules.proofs.Common.{inl, inr, Cover, Half, Second, Full, Trust, Noted, Answer, Cleansed, Flush, HalfBy}
-use Rattle.bbm_rules.proofs.Common.{Publication, Heading, Event, Issued, completes, completes_for, issues, reaches, Open}
-use Rattle.std.proofs.lemmas.List.{append_assoc}
+use Rattle.bbm_rules.proofs.Common.{Publication, Heading, Issued, completes, completes_for, issues, reaches, Open}
 use Rattle.bbm_rules.specs.Notes.{event_of, topped}
 use Rattle.bbm_rules.specs.PatternSentences.{IsAbove}
-use Rattle.bbm_tlb_machine.specs.Invariant.{CleansedAs, FlushAs, HalfAs, grade}
+use Rattle.bbm_tlb_machine.specs.Entry.{Entry, Part}
+use Rattle.bbm_tlb_machine.specs.Invariant.{CleansedAs, FlushAs, HalfAs}
+use Rattle.bbm_histories.proofs.PatternLemmas.{answer_stays}
 
 -- ---- later events
-
-answer_later : (newer since : List Noted) (t : Issued Noted) (d : Noted) → Answer since t d → Answer (newer ++ since) t d
-answer_later newer since t d a = record {
-  q = a.q;
-  dsb = a.dsb;
-  newer = newer ++ a.newer;
-  older = a.older;
-  split = ap (λ (xs : List Noted). newer ++ xs) a.split ∙ sym (append_assoc newer a.newer (d ∷ a.older));
-  barrier = a.barrier;
-  is_open = a.is_open;
-  completed = a.completed;
-}
 
 -- what is half before a TLBI is half after it
 pub half_before : (top : Bool) (heading : Heading) (place p q : ℕ) (since : List Noted) (t2 : Issued Noted) (b : Noted)
@@ -28,7 +17,7 @@ pub half_before : (top : Bool) (heading : Heading) (place p q : ℕ) (since : Li
 half_before top heading place p q since t2 b t d o half = record {
   flush = record {
     answer = subst (λ (xs : List Noted). Answer xs t d) (sym o.split)
-        (answer_later o.newer (t2.tlbi ∷ t2.before) t d (answer_later (t2.tlbi ∷ []) t2.before t d half.flush.answer));
+        (answer_stays o.newer (t2.tlbi ∷ t2.before) t d (answer_stays (t2.tlbi ∷ []) t2.before t d half.flush.answer));
     reached = half.flush.reached;
     covered = half.flush.covered;
   };
@@ -36,6 +25,10 @@ half_before top heading place p q since t2 b t d o half = record {
 }
 
 -- ---- by covers
+
+-- they say it of the place of any part
+pub at_any : (x : Entry) (part : Part) → false ≡ true → x.last ≡ part
+at_any x part t = absurd (true≢false (sym t))
 
 flush_as : (heading : Heading) (cover : Cover) (place p : ℕ) (since : List Noted) (t : Issued Noted) (d : Noted)
     → Flush heading cover place p since t d → FlushAs false heading cover place p since t d

@@ -7,6 +7,7 @@ mod Facts
 mod FineSteps
 pub mod FollowSteps
 pub mod GivenUp
+mod Grades
 mod InTrees
 mod IsolatedLaw
 mod ListWords
@@ -26,4 +27,3 @@ mod Runs
 mod SafeLaw
 mod Scopes
 mod Taken
-mod Grades

@@ -1,5 +1,5 @@
 -- What a step of the machine makes of fine entries is fine: an entry that is started, extended, joined or copied.
-use Rattle.bbm_rules.proofs.Common.{◌≡◌, ℕ, suc, ◌+◌, ◌<◌, ◌≤◌, nat_lt, true, false, List, [], ◌∷◌, ◌++◌, length, Option}
+use Rattle.bbm_rules.proofs.Common.{◌≡◌, ℕ, suc, ◌+◌, ◌<◌, ◌≤◌, nat_lt, true, false, List, [], ◌∷◌, length, Option}
 use Rattle.bbm_rules.proofs.Common.{Some, None, Contains, refl, sym, ◌∙◌, ap, subst, inl, inr, arith, true≢false}
 use Rattle.bbm_rules.proofs.Common.{length-append, and_parts, eqb-true, ltb-true, Kind, is_valid, needs, read_through}
 use Rattle.bbm_rules.proofs.Common.{tag_of, EntryKind, Stage2, Combined, keeps, Trust, seen, noted, ValidWrite, held}
@@ -17,10 +17,10 @@ use Rattle.bbm_tlb_machine.specs.Step.{Extends, Starts, combined, entry_kind, ex
 use Rattle.bbm_tlb_machine.specs.Step.{may_share, next_part, root_of, shared, started}
 use Rattle.bbm_tlb_machine.proofs.AfterEvent.{publication_answered}
 use Rattle.bbm_tlb_machine.proofs.EventSteps.{tag_kind}
-use Rattle.bbm_rules.proofs.Common.{Bool, ◌&&◌, nat_le, leb-true, gives_up}
-use Rattle.bbm_rules.specs.Roots.{given_up_since}
-use Rattle.bbm_rules.proofs.SearchLemmas.{is_none_before}
+use Rattle.bbm_rules.proofs.Common.{Bool}
 use Rattle.bbm_tlb_machine.proofs.Facts.{no_global, tag_now}
+use Rattle.bbm_tlb_machine.proofs.GivenUp.{not_yet}
+use Rattle.bbm_tlb_machine.proofs.Grades.{at_any}
 use Rattle.bbm_tlb_machine.proofs.InTrees.{below_placed, start_placed}
 use Rattle.bbm_tlb_machine.proofs.Roots.{reads_at, start_node}
 
@@ -48,21 +48,6 @@ combined_fits kind e = absurd (true≢false (sym e))
 that_is : (o : Option ℕ) (n : ℕ) → is_that o n ≡ true → o ≡ Some n
 that_is (Some m) n e = ap Some (eqb-true m n e)
 that_is None n e = absurd (true≢false (sym e))
-
--- nothing was given up since now
-not_yet : (u : Bool) (n page : ℕ) (h : List Event) → length h ≤ n → (u && given_up_since n page h) ≡ false
-not_yet true n page h le =
-    is_none_before (λ e before. nat_le n (length before) && gives_up page e) h
-    (λ newer e older s. too_early newer e older s (nat_le n (length older)) refl)
-  where
-    too_early : (newer : List Event) (e : Event) (older : List Event) → h ≡ newer ++ e ∷ older → (b : Bool) → nat_le n (length older) ≡ b
-        → (b && gives_up page e) ≡ false
-    too_early newer e older s true b =
-        let late : n ≤ length older = leb-true n (length older) b in
-        let long : length h ≡ length newer + suc (length older) = ap length s ∙ length-append newer (e ∷ older) in
-        absurd (omega (arith, late, long, le))
-    too_early newer e older s false b = refl
-not_yet false n page h le = refl
 
 module _ (heading : Heading) (trust : Trust) (k : Known heading trust) (h : List Event) (kept : keeps heading trust h ≡ true) where
   abbrev notes : List Noted
@@ -274,7 +259,7 @@ module _ (heading : Heading) (trust : Trust) (k : Known heading trust) (h : List
         subst (λ (q : Part). Stays true q) (at_last refl) (λ w last p near c. new_uncleansed true x part next_new w last p near c)
     uncleansed_by false q i at_last =
         more (λ (q : Part). Stays false q) (λ w last p near c. new_uncleansed false x part next_new w last p near c)
-        (λ q j. (f.rooted s.goes_on).uncleansed false q j (λ t. absurd (true≢false (sym t)))) q i
+        (λ q j. (f.rooted s.goes_on).uncleansed false q j (at_any x q)) q i
 
     abbrev Joined : Bool → Part → Type 0
     Joined top q = (w : ValidWrite) → last_valid q.kind q.level q.place (noted heading trust h) ≡ Some w → (p : ℕ)
@@ -289,17 +274,17 @@ module _ (heading : Heading) (trust : Trust) (k : Known heading trust) (h : List
     joined_by false q i at_last =
         more (λ (q : Part). Joined false q)
         (λ w last p near b t d half. absurd (new_half false x part next_new w last p near b t d half))
-        (λ q j. (f.rooted s.goes_on).joined_before false q j (λ t. absurd (true≢false (sym t)))) q i
+        (λ q j. (f.rooted s.goes_on).joined_before false q j (at_any x q)) q i
 
     extended_rooted : Rooted heading trust h (extended x place value)
     extended_rooted = record {
       placed = more (λ (q : Part). Placed heading trust h x.root q) next_placed (f.rooted s.goes_on).placed;
       holding = more (λ (q : Part). Holding heading trust h q) next_new.holding (f.rooted s.goes_on).holding;
-      uncleansed = λ top q i at_last. uncleansed_by top q i at_last;
+      uncleansed = uncleansed_by;
       made_before = more (λ (q : Part). (w : ValidWrite) → last_valid q.kind q.level q.place (noted heading trust h) ≡ Some w → (p : ℕ)
           → IsNear heading x p → (b : Noted) → Publication heading q.place p w.since b → x.since < b.position)
           (λ w last p near b published. absurd (next_new.unseen w last p near b published)) (f.rooted s.goes_on).made_before;
-      joined_before = λ top q i at_last. joined_by top q i at_last;
+      joined_before = joined_by;
     }
 
     pub fine_extended : Fine heading trust h (extended x place value)

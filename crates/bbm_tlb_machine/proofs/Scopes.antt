@@ -148,24 +148,27 @@ abbrev pub CoversBy : Heading → List Noted → Event → PlaceView → Cover �
 CoversBy heading older e v cover = Scoped heading (events_of older) e (λ scope vmid. cover_of scope vmid v ≡ cover)
 
 module _ (heading : Heading) (trust : Trust) where
+  -- what covers a place seen so, covers it by its scope
+  by_scope : (older : List Noted) (pe : ℕ) (op : TlbiOp) (xt : ℕ) (v : PlaceView) (cover : Cover) → (cover ≡ NoCover → ⊥)
+      → unwrap_or (named_scope heading (events_of older) pe op xt
+      >>= (λ (s : Scope). Some (cover_of s (vmid_of heading (events_of older) pe) v))) NoCover ≡ cover
+      → CoversBy heading older (Tlbi pe op xt) v cover
+  by_scope older pe op xt v cover some c =
+      scoped heading (events_of older) pe op xt _
+      (λ (o : Option Scope). unwrap_or (o >>= (λ (s : Scope). Some (cover_of s (vmid_of heading (events_of older) pe) v))) NoCover ≡ cover)
+      (λ k. some (sym k)) (λ scope k. k) c
+
   pub covers_by : (older : List Noted) (e : Event) (place : ℕ) (v : PlaceView) (cover : Cover)
       → view_at heading trust older place ≡ Some v → (cover ≡ NoCover → ⊥) → cover_at heading trust older e place ≡ cover
       → CoversBy heading older e v cover
-  covers_by older (Tlbi pe op xt) place v cover seen some c =
-      scoped heading (events_of older) pe op xt _
-      (λ (o : Option Scope). unwrap_or (o >>= (λ (s : Scope). Some (cover_of s (vmid_of heading (events_of older) pe) v))) NoCover ≡ cover)
-      (λ k. some (sym k)) (λ scope k. k) (rw seen at c)
+  covers_by older (Tlbi pe op xt) place v cover seen some c = by_scope older pe op xt v cover some (rw seen at c)
   covers_by older e place v cover seen some c = absurd (some (sym c))
 
-module _ (heading : Heading) (trust : Trust) where
   -- so it is with a top cover, of the place as one sees it of whose table nothing is held below
   pub tops_by : (older : List Noted) (e : Event) (place : ℕ) (v : PlaceView) (cover : Cover)
       → view_at heading trust older place ≡ Some v → (cover ≡ NoCover → ⊥) → top_at heading trust older e place ≡ cover
       → CoversBy heading older e (at_end v) cover
-  tops_by older (Tlbi pe op xt) place v cover seen some c =
-      scoped heading (events_of older) pe op xt _
-      (λ (o : Option Scope). unwrap_or (o >>= (λ (s : Scope). Some (cover_of s (vmid_of heading (events_of older) pe) (at_end v)))) NoCover ≡ cover)
-      (λ k. some (sym k)) (λ scope k. k) (rw seen at c)
+  tops_by older (Tlbi pe op xt) place v cover seen some c = by_scope older pe op xt (at_end v) cover some (rw seen at c)
   tops_by older e place v cover seen some c = absurd (some (sym c))
 
 -- ---- a TLBI that must have taken an entry
