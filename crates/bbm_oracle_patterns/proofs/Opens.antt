@@ -57,7 +57,7 @@ left_any dsb test b ts =
     ∙ and_comm (not (answers dsb b)) (any (test_of b test) ts)
 
 module _ (o : Open) (test : ℕ → Issued Noted → Bool) (since : List Noted) (is : IsOpen o test since)
-    (covers : ℕ → Cover) (position pe : ℕ) where
+    (covers tops : ℕ → Cover) (position pe : ℕ) where
   -- what the DSB answers
   pub answered_by : (dsb : Barrier) (p : ℕ) →
       ((answers dsb true && is_open o pe true p) || (answers dsb false && is_open o pe false p))
@@ -71,7 +71,7 @@ module _ (o : Open) (test : ℕ → Issued Noted → Bool) (since : List Noted) 
   -- what it leaves
   pub after_dsb : (dsb : Barrier) (left : Open) →
       ((q : ℕ) (b : Bool) (p : ℕ) → is_open left q b p ≡ (is_open o q b p && not (nat_eq pe q && answers dsb b))) →
-      IsOpen left test (record { event = Dsb pe dsb; covers = covers; position = position } ∷ since)
+      IsOpen left test (record { event = Dsb pe dsb; covers = covers; tops = tops; position = position } ∷ since)
   after_dsb dsb left e = record {
     by = λ q b p.
         e q b p
@@ -92,10 +92,10 @@ module _ (o : Open) (test : ℕ → Issued Noted → Bool) (since : List Noted) 
       ≡ (is_open o q b p || (nat_eq pe q && (same_flag b (operation op).broadcast && counts p)))) →
       ((p : ℕ) → counts p ≡ test p (record {
         tlbi =
-            record { event = Tlbi pe op xt; covers = covers; position = position };
+            record { event = Tlbi pe op xt; covers = covers; tops = tops; position = position };
         before = since;
       })) →
-      IsOpen more test (record { event = Tlbi pe op xt; covers = covers; position = position } ∷ since)
+      IsOpen more test (record { event = Tlbi pe op xt; covers = covers; tops = tops; position = position } ∷ since)
   after_tlbi op xt more counts e c = record {
     by = λ q b p.
         e q b p
@@ -105,7 +105,7 @@ module _ (o : Open) (test : ℕ → Issued Noted → Bool) (since : List Noted) 
   }
     where
       issued : Issued Noted
-      issued = record { tlbi = record { event = Tlbi pe op xt; covers = covers; position = position }; before = since }
+      issued = record { tlbi = record { event = Tlbi pe op xt; covers = covers; tops = tops; position = position }; before = since }
 
       at : (q : ℕ) (b : Bool) (p : ℕ) (k : Bool) →
           (any (test_of b (test p)) (unanswered event_of q since) || (k && test_of b (test p) issued))

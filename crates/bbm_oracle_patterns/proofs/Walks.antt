@@ -13,8 +13,10 @@ use Rattle.bbm_rules.specs.Notes.{event_of}
 use Rattle.bbm_rules.specs.Reach.{still_open}
 use Rattle.bbm_oracle_patterns.specs.Relation.{is_open, related}
 use Rattle.bbm_oracle_patterns.specs.Walk.{IsOpen, IsWalk, Traces, full_test, half_test, second_test, is_idle}
-use Rattle.bbm_oracle_patterns.specs.Walk.{is_write_of, some_writes, writes_place}
-use Rattle.bbm_oracle_patterns.specs.Kept.{cover_in, note_of, notes_behind}
+use Rattle.bbm_oracle_patterns.specs.Walk.{is_write_of, noted_for, some_writes, writes_place}
+use Rattle.bbm_oracle_patterns.specs.Kept.{cover_in, listed, note_of, notes_behind, notes_for}
+use Rattle.bbm_oracle_patterns.specs.declared.kept.Covering.{Covering}
+use Rattle.bbm_oracle_patterns.specs.declared.kept.Covering.TheVariants.{Whole, Top}
 use Rattle.bbm_oracle_patterns.specs.declared.kept.Kept.{Kept}
 use Rattle.bbm_oracle_patterns.specs.declared.open.Open.{Open}
 use Rattle.bbm_oracle_patterns.specs.declared.trace.Trace.{Trace}
@@ -82,7 +84,7 @@ walk_idle w heading place n since k x = record {
 -- ---- a write, a DSB, a TLBI
 
 module _ (w : Walk) (heading : Heading) (place : ℕ) (since : List Noted) (x : IsWalk w heading place since)
-    (covers : ℕ → Cover) (position pe : ℕ) where
+    (covers tops : ℕ → Cover) (position pe : ℕ) where
   pub walk_dsb : (dsb : Barrier) (t : Trace) (full half second : Open) →
       ((p : ℕ) → pe_in t.seen p ≡ ((publishes_to heading dsb pe p && pe_in w.writers pe) || pe_in w.trace.seen p)) →
       ((p : ℕ) → pe_in t.half p ≡ (((answers dsb true && is_open w.half pe true p)
@@ -96,7 +98,7 @@ module _ (w : Walk) (heading : Heading) (place : ℕ) (since : List Noted) (x : 
       ((q : ℕ) (b : Bool) (p : ℕ) → is_open second q b p
       ≡ (is_open w.second q b p && not (nat_eq pe q && answers dsb b))) →
       IsWalk (record { writers = w.writers; trace = t; full = full; half = half; second = second }) heading place
-      (record { event = Dsb pe dsb; covers = covers; position = position } ∷ since)
+      (record { event = Dsb pe dsb; covers = covers; tops = tops; position = position } ∷ since)
   walk_dsb dsb t full half second seen_is half_is cleansed_is full_is half_left second_is = record {
     writers = x.writers;
     seen_at = λ p.
@@ -109,27 +111,27 @@ module _ (w : Walk) (heading : Heading) (place : ℕ) (since : List Noted) (x : 
     half_at = λ p.
         half_is p
         ∙ ap (λ (b : Bool). b || pe_in w.trace.half p)
-        (answered_by w.half (half_test heading place) since x.half_open covers position pe dsb p)
+        (answered_by w.half (half_test heading place) since x.half_open covers tops position pe dsb p)
         ∙ ap (λ (b : Bool). answers_one (half_test heading place p) (Dsb pe dsb) since || b) (x.half_at p);
     cleansed_at = λ p. cleansed_part p;
-    full_open = after_dsb w.full (full_test heading place) since x.full_open covers position pe dsb full full_is;
-    half_open = after_dsb w.half (half_test heading place) since x.half_open covers position pe dsb half half_left;
-    second_open = after_dsb w.second (second_test heading place) since x.second_open covers position pe dsb second
+    full_open = after_dsb w.full (full_test heading place) since x.full_open covers tops position pe dsb full full_is;
+    half_open = after_dsb w.half (half_test heading place) since x.half_open covers tops position pe dsb half half_left;
+    second_open = after_dsb w.second (second_test heading place) since x.second_open covers tops position pe dsb second
         second_is;
   }
     where
       cleansed_part : (p : ℕ) → pe_in t.cleansed p
           ≡ spec.cleansed heading Patterns place p
-          (record { event = Dsb pe dsb; covers = covers; position = position } ∷ since)
+          (record { event = Dsb pe dsb; covers = covers; tops = tops; position = position } ∷ since)
       cleansed_part p =
           let a : Bool = answers_one (full_test heading place p) (Dsb pe dsb) since in
           let c : Bool = answers_one (second_test heading place p) (Dsb pe dsb) since in
           cleansed_is p
           ∙ ap (λ (b : Bool). (b || ((answers dsb true && is_open w.second pe true p)
           || (answers dsb false && is_open w.second pe false p))) || pe_in w.trace.cleansed p)
-          (answered_by w.full (full_test heading place) since x.full_open covers position pe dsb p)
+          (answered_by w.full (full_test heading place) since x.full_open covers tops position pe dsb p)
           ∙ ap (λ (b : Bool). (a || b) || pe_in w.trace.cleansed p)
-          (answered_by w.second (second_test heading place) since x.second_open covers position pe dsb p)
+          (answered_by w.second (second_test heading place) since x.second_open covers tops position pe dsb p)
           ∙ ap (λ (b : Bool). (a || c) || b) (x.cleansed_at p)
           ∙ or_middle a c (some (λ n older. answers_one (full_test heading place p) n.event older) since)
           (some (λ n older. answers_one (second_test heading place p) n.event older) since)
@@ -149,23 +151,23 @@ module _ (w : Walk) (heading : Heading) (place : ℕ) (since : List Noted) (x : 
       ((q : ℕ) (b : Bool) (p : ℕ) → is_open second q b p
       ≡ (is_open w.second q b p || (nat_eq pe q && (same_flag b broadcast && pe_in seconds p)))) →
       IsWalk (record w { full = full; half = half; second = second }) heading place
-      (record { event = Tlbi pe op xt; covers = covers; position = position } ∷ since)
+      (record { event = Tlbi pe op xt; covers = covers; tops = tops; position = position } ∷ since)
   walk_tlbi op xt cover broadcast full half second seens halfs fulls halves seconds flag covered seens_are halfs_are
       fulls_are halves_are seconds_are full_is half_is second_is = record {
         writers = x.writers;
         seen_at = x.seen_at;
         half_at = x.half_at;
         cleansed_at = x.cleansed_at;
-        full_open = after_tlbi w.full (full_test heading place) since x.full_open covers position pe op xt full
+        full_open = after_tlbi w.full (full_test heading place) since x.full_open covers tops position pe op xt full
             (pe_in fulls) (flagged w.full full fulls full_is)
             (λ p. counts Full (pe_in fulls p) (pe_in seens p) (pe_in w.trace.seen p) (spec.seen heading place p since) p
             (fulls_are p) (seens_are p) (x.seen_at p));
-        half_open = after_tlbi w.half (half_test heading place) since x.half_open covers position pe op xt half
+        half_open = after_tlbi w.half (half_test heading place) since x.half_open covers tops position pe op xt half
             (pe_in halves) (flagged w.half half halves half_is)
             (λ p. counts Half (pe_in halves p) (pe_in seens p) (pe_in w.trace.seen p)
             (spec.seen heading place p since) p
             (halves_are p) (seens_are p) (x.seen_at p));
-        second_open = after_tlbi w.second (second_test heading place) since x.second_open covers position pe op xt
+        second_open = after_tlbi w.second (second_test heading place) since x.second_open covers tops position pe op xt
             second
             (pe_in seconds) (flagged w.second second seconds second_is)
             (λ p. counts Second (pe_in seconds p) (pe_in halfs p) (pe_in w.trace.half p)
@@ -197,7 +199,7 @@ module _ (w : Walk) (heading : Heading) (place : ℕ) (since : List Noted) (x : 
   -- a TLBI where the place is seen and half nowhere
   pub walk_early : (op : TlbiOp) (xt : ℕ) → ((p : ℕ) → pe_in w.trace.seen p ≡ false)
       → ((p : ℕ) → pe_in w.trace.half p ≡ false) →
-      IsWalk w heading place (record { event = Tlbi pe op xt; covers = covers; position = position } ∷ since)
+      IsWalk w heading place (record { event = Tlbi pe op xt; covers = covers; tops = tops; position = position } ∷ since)
   walk_early op xt unseen unhalf = record {
     writers = x.writers;
     seen_at = x.seen_at;
@@ -219,22 +221,37 @@ module _ (w : Walk) (heading : Heading) (place : ℕ) (since : List Noted) (x : 
 
       early : (o : Open) (test : ℕ → Issued Noted → Bool) → IsOpen o test since →
           ((p : ℕ) → test p (record {
-            tlbi = record { event = Tlbi pe op xt; covers = covers; position = position };
+            tlbi = record { event = Tlbi pe op xt; covers = covers; tops = tops; position = position };
             before = since;
           }) ≡ false) →
-          IsOpen o test (record { event = Tlbi pe op xt; covers = covers; position = position } ∷ since)
+          IsOpen o test (record { event = Tlbi pe op xt; covers = covers; tops = tops; position = position } ∷ since)
       early o test is fails =
-          after_tlbi o test since is covers position pe op xt o (λ p. false)
+          after_tlbi o test since is covers tops position pe op xt o (λ p. false)
           (λ q b p. no_more (is_open o q b p) (nat_eq pe q) (same_flag b (operation op).broadcast)) (λ p. sym (fails p))
 
 -- the event of the newest note is this one
-pub event_is : (w : Walk) (heading : Heading) (place before : ℕ) (k : Kept) (since : List Noted) (e : Event)
-    → k.event ≡ e →
-    IsWalk w heading place (record { event = e; covers = cover_in k.covers.items; position = suc before } ∷ since) →
-    IsWalk w heading place (note_of before k ∷ since)
-event_is w heading place before k since e is x =
-    subst (λ (d : Event). IsWalk w heading place
-    (record { event = d; covers = cover_in k.covers.items; position = suc before } ∷ since)) (sym is) x
+pub event_is : (w : Walk) (heading : Heading) (place before : ℕ) (covering : Covering) (k : Kept) (since : List Noted)
+    (e : Event) → k.event ≡ e →
+    IsWalk w heading place (record {
+      event = e;
+      covers = cover_in (listed covering k);
+      tops = cover_in k.tops.items;
+      position = suc before;
+    } ∷ since) →
+    IsWalk w heading place (noted_for covering before k ∷ since)
+event_is w heading place before covering k since e is x =
+    subst (λ (d : Event). IsWalk w heading place (record {
+      event = d;
+      covers = cover_in (listed covering k);
+      tops = cover_in k.tops.items;
+      position = suc before;
+    } ∷ since)) (sym is) x
+
+-- one note more
+pub for_more : (covering : Covering) (before : ℕ) (k : Kept) (ns : List Noted)
+    → notes_for covering (note_of before k ∷ ns) ≡ noted_for covering before k ∷ notes_for covering ns
+for_more Whole before k ns = refl
+for_more Top before k ns = refl
 
 -- ---- a place that isn't written
 
@@ -269,11 +286,11 @@ module _ (heading : Heading) (place : ℕ) (m : PeMask) (none : (p : ℕ) → pe
       && not (nat_eq pe q && answers dsb b))
   nothing_left dsb pe q b p = rw (nothing_open q b p) refl
 
-  unwritten_more : (e : Event) (covers : ℕ → Cover) (position : ℕ) (since : List Noted) → is_write_of place e ≡ false →
-      IsWalk (found_nothing m) heading place since →
-      IsWalk (found_nothing m) heading place (record { event = e; covers = covers; position = position } ∷ since)
-  unwritten_more (Dsb pe dsb) covers position since k x =
-      walk_dsb (found_nothing m) heading place since x covers position pe dsb
+  unwritten_more : (e : Event) (covers tops : ℕ → Cover) (position : ℕ) (since : List Noted)
+      → is_write_of place e ≡ false → IsWalk (found_nothing m) heading place since →
+      IsWalk (found_nothing m) heading place (record { event = e; covers = covers; tops = tops; position = position } ∷ since)
+  unwritten_more (Dsb pe dsb) covers tops position since k x =
+      walk_dsb (found_nothing m) heading place since x covers tops position pe dsb
       (record { seen = m; half = m; cleansed = m })
       (found_nothing m).full (found_nothing m).half (found_nothing m).second
       (λ p. none p ∙ sym (ap (λ (b : Bool). (publishes_to heading dsb pe p && pe_in m pe) || b) (none p)
@@ -282,36 +299,46 @@ module _ (heading : Heading) (place : ℕ) (m : PeMask) (none : (p : ℕ) → pe
       (λ p. sym (ap (λ (b : Bool). b || pe_in m p) (nothing_answered dsb pe p)))
       (λ p. sym (ap (λ (b : Bool). (b || b) || pe_in m p) (nothing_answered dsb pe p)))
       (nothing_left dsb pe) (nothing_left dsb pe) (nothing_left dsb pe)
-  unwritten_more (Tlbi pe op xt) covers position since k x =
-      walk_early (found_nothing m) heading place since x covers position pe op xt none none
-  unwritten_more (Write pe at value) covers position since k x =
+  unwritten_more (Tlbi pe op xt) covers tops position since k x =
+      walk_early (found_nothing m) heading place since x covers tops position pe op xt none none
+  unwritten_more (Write pe at value) covers tops position since k x =
       walk_idle (found_nothing m) heading place
-      (record { event = Write pe at value; covers = covers; position = position }) since (ap not k) x
-  unwritten_more e covers position since k x =
+      (record { event = Write pe at value; covers = covers; tops = tops; position = position }) since (ap not k) x
+  unwritten_more e covers tops position since k x =
       walk_idle (found_nothing m) heading place
-      (record { event = e; covers = covers; position = position }) since refl x
+      (record { event = e; covers = covers; tops = tops; position = position }) since refl x
 
-  walk_unwritten : (before : ℕ) (ks : List Kept) → some_writes place ks ≡ false
-      → IsWalk (found_nothing m) heading place (notes_behind before ks)
-  walk_unwritten before [] k = record {
-    writers = none;
-    seen_at = none;
-    half_at = none;
-    cleansed_at = none;
-    full_open = record { by = nothing_open };
-    half_open = record { by = nothing_open };
-    second_open = record { by = nothing_open };
-  }
-  walk_unwritten before (y ∷ ks) k =
+  walk_unwritten : (covering : Covering) (before : ℕ) (ks : List Kept) → some_writes place ks ≡ false
+      → IsWalk (found_nothing m) heading place (notes_for covering (notes_behind before ks))
+  walk_unwritten covering before [] k = by covering
+    where
+      nothing : IsWalk (found_nothing m) heading place []
+      nothing = record {
+        writers = none;
+        seen_at = none;
+        half_at = none;
+        cleansed_at = none;
+        full_open = record { by = nothing_open };
+        half_open = record { by = nothing_open };
+        second_open = record { by = nothing_open };
+      }
+
+      by : (c : Covering) → IsWalk (found_nothing m) heading place (notes_for c [])
+      by Whole = nothing
+      by Top = nothing
+  walk_unwritten covering before (y ∷ ks) k =
       let parts : (is_write_of place y.event ≡ false) × (some_writes place ks ≡ false) =
       or_parts (is_write_of place y.event) (some_writes place ks) k in
-      unwritten_more y.event (note_of (before + length ks) y).covers (note_of (before + length ks) y).position
-      (notes_behind before ks) parts.0
-      (walk_unwritten before ks parts.1)
+      let n : Noted = noted_for covering (before + length ks) y in
+      subst (λ (ns : List Noted). IsWalk (found_nothing m) heading place ns)
+      (sym (for_more covering (before + length ks) y (notes_behind before ks)))
+      (unwritten_more y.event n.covers n.tops n.position (notes_for covering (notes_behind before ks)) parts.0
+      (walk_unwritten covering before ks parts.1))
 
-  pub trace_unwritten : (before : ℕ) (ks : List Kept) → some_writes place ks ≡ false →
-      Traces (record { seen = m; half = m; cleansed = m }) heading place (notes_behind before (reverse ks))
-  trace_unwritten before ks k =
-      let x : IsWalk (found_nothing m) heading place (notes_behind before (reverse ks)) =
-      walk_unwritten before (reverse ks) (any_reverse (writes_place place) ks ∙ k) in
+  pub trace_unwritten : (covering : Covering) (before : ℕ) (ks : List Kept) → some_writes place ks ≡ false →
+      Traces (record { seen = m; half = m; cleansed = m }) heading place
+      (notes_for covering (notes_behind before (reverse ks)))
+  trace_unwritten covering before ks k =
+      let x : IsWalk (found_nothing m) heading place (notes_for covering (notes_behind before (reverse ks))) =
+      walk_unwritten covering before (reverse ks) (any_reverse (writes_place place) ks ∙ k) in
       record { seen_at = x.seen_at; half_at = x.half_at; cleansed_at = x.cleansed_at }

@@ -1,5 +1,5 @@
 -- What a walk keeps of the events after the last valid write of a place. No public contract cites these words.
-use Rattle.std.specs.Prelude.{◌≡◌, ℕ, Bool, false, not, ◌&&◌, ◌==◌, true, List, ◌∷◌}
+use Rattle.std.specs.Prelude.{◌≡◌, ℕ, suc, Bool, false, not, ◌&&◌, ◌==◌, true, List, ◌∷◌}
 use Rattle.bbm_regimes.specs.PeMask.{pe_in}
 use Rattle.bbm_tlbi_scope.specs.Operations.{operation}
 use Rattle.bbm_tlbi_scope.specs.declared.entry.Cover.TheVariants.{Half, Second, Full}
@@ -14,7 +14,9 @@ use Rattle.bbm_lemmas.specs.ListWords.{same_flag}
 use Rattle.bbm_oracle_patterns.specs.declared.open.Open.{Open}
 use Rattle.bbm_oracle_patterns.specs.declared.walk.Walk.{Walk}
 use Rattle.bbm_oracle_patterns.specs.declared.trace.Trace.{Trace}
+use Rattle.bbm_oracle_patterns.specs.declared.kept.Covering.{Covering}
 use Rattle.bbm_oracle_patterns.specs.declared.kept.Kept.{Kept}
+use Rattle.bbm_oracle_patterns.specs.Kept.{cover_in, listed}
 
 -- a TLBI that is broadcast, or one that isn't
 abbrev pub is_of : Bool → Event → Bool
@@ -24,6 +26,16 @@ is_of b _ = false
 -- whether an unanswered TLBI of q passes the test, of those that are broadcast or of the others
 abbrev pub open_to : (Issued Noted → Bool) → Bool → ℕ → List Noted → Bool
 open_to test b q since = any (λ t. is_of b t.tlbi.event && test t) (unanswered event_of q since)
+
+-- the note of an event that stands behind so many others, which covers a place as far as its covers say, or its top
+-- covers
+abbrev pub noted_for : Covering → ℕ → Kept → Noted
+noted_for covering before k = record {
+  event = k.event;
+  covers = cover_in (listed covering k);
+  tops = cover_in k.tops.items;
+  position = suc before;
+}
 
 -- an event that changes nothing for a place
 abbrev pub is_idle : Event → ℕ → Bool

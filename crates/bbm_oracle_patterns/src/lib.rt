@@ -18,6 +18,6 @@ pub mod trace;
 mod walk;
 
 pub use evidence::Evidence;
-pub use kept::{Covered, Kept};
+pub use kept::{Covered, Covering, Kept};
 pub use search::{TreePlace, ValidWrite, held, last_valid, phase_in};
-pub use trace::{Trace, cleansed_everywhere, trace_of};
+pub use trace::{Trace, above_everywhere, cleansed_everywhere, trace_for, trace_of};

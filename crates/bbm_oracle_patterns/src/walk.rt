@@ -7,10 +7,9 @@ ghost use Rattle.bbm_events.specs.declared.event.Event.{Event};
 ghost use Rattle.bbm_events.specs.Heading.{Heading};
 ghost use Rattle.bbm_rules.specs.Cleansing.{same_cover};
 ghost use Rattle.bbm_rules.specs.Values as values;
-ghost use Rattle.bbm_oracle_patterns.specs.Kept.{note_of};
-ghost use Rattle.bbm_oracle_patterns.specs.Walk.{IsWalk, Steps};
+ghost use Rattle.bbm_oracle_patterns.specs.Walk.{IsWalk, Steps, noted_for};
 
-use crate::kept::Kept;
+use crate::kept::{Covering, Kept};
 use crate::open::Open;
 use crate::trace::Trace;
 use bbm_barriers::{Dsb, is_non, publishes_to};
@@ -115,10 +114,11 @@ impl Walk {
 
     /// The PE writes the place.
     fn write(&mut self, pe: Pe)
-        ensures { (heading : Heading) (place value position : ℕ) (covers : ℕ → Grade)
+        ensures { (heading : Heading) (place value position : ℕ) (covers tops : ℕ → Grade)
             → Steps self.old self.new heading place (record {
               event = Event.Write pe place value;
               covers = covers;
+              tops = tops;
               position = position;
             }) }
     {
@@ -127,10 +127,11 @@ impl Walk {
 
     /// The PE issues a DSB.
     fn complete(&mut self, header: &Header, pe: Pe, dsb: Dsb)
-        ensures { (place position : ℕ) (covers : ℕ → Grade)
+        ensures { (place position : ℕ) (covers tops : ℕ → Grade)
             → Steps self.old self.new header.now place (record {
               event = Event.Dsb pe dsb;
               covers = covers;
+              tops = tops;
               position = position;
             }) }
     {
@@ -147,10 +148,11 @@ impl Walk {
 
     /// The PE issues a TLBI that covers the place so far.
     fn issue(&mut self, header: &Header, pe: Pe, op: TlbiOp, cover: Cover)
-        ensures { (place xt position : ℕ) (covers : ℕ → Grade) → covers place ≡ cover
+        ensures { (place xt position : ℕ) (covers tops : ℕ → Grade) → covers place ≡ cover
             → Steps self.old self.new header.now place (record {
               event = Event.Tlbi pe op xt;
               covers = covers;
+              tops = tops;
               position = position;
             }) }
     {
@@ -166,8 +168,8 @@ impl Walk {
     }
 
     /// Takes one more event, for this place.
-    pub fn take(&mut self, header: &Header, place: Place, kept: &Kept)
-        ensures { (before : ℕ) → Steps self.old self.new header.now place (note_of before kept.now) }
+    pub fn take(&mut self, header: &Header, place: Place, covering: Covering, kept: &Kept)
+        ensures { (before : ℕ) → Steps self.old self.new header.now place (noted_for covering before kept.now) }
     {
         match kept.event {
             Event::Write {
@@ -182,7 +184,7 @@ impl Walk {
             Event::Dsb { pe, dsb } => self.complete(header, pe, dsb),
             Event::Tlbi { pe, op, xt: _ } => {
                 if !self.trace.seen.is_empty() || !self.trace.half.is_empty() {
-                    self.issue(header, pe, op, kept.cover(place));
+                    self.issue(header, pe, op, kept.cover_for(covering, place));
                 }
             }
             _ => {}

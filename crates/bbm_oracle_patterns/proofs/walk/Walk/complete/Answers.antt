@@ -5,8 +5,8 @@ use Rattle.bbm_oracle_patterns.proofs.Walks.{walk_dsb}
 use Rattle.bbm_oracle_patterns.proofs.walk.Walk.complete.Goals as goal
 
 pub returns : goal.returns
-returns c = λ place position covers since x.
-    walk_dsb c.args.self.now c.args.header.now place since x covers position c.args.pe c.args.dsb
+returns c = λ place position covers tops since x.
+    walk_dsb c.args.self.now c.args.header.now place since x covers tops position c.args.pe c.args.dsb
     (record { seen = c.or.result; half = c.or-2.result; cleansed = c.or-4.result })
     c.answer-full.new.self c.answer-half.new.self c.answer-second.new.self
     (λ p. c.or.ensures p ∙ ap (λ (b : Bool). b || pe_in c.args.self.now.trace.seen p) (c.newly_seen-seen.ensures p))

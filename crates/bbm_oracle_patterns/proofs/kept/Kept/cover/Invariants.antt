@@ -1,7 +1,0 @@
-use Rattle.bbm_rules.proofs.Common.{◌≡◌, drop}
-use Rattle.bbm_oracle_patterns.specs.Kept.{cover_in}
-use Rattle.bbm_oracle_patterns.proofs.kept.Kept.cover.Given as goal
-
-abbrev pub invariant-loop-covered : goal.invariant-loop-covered
-invariant-loop-covered l = cover_in (drop l.covered-index l.self.covers.items) l.place
-    ≡ cover_in l.self.covers.items l.place
