@@ -1,7 +1,7 @@
 -- What a TLBI covers, of the places of the trees page by page.
 use Rattle.bbm_rules.proofs.Common.{◌≡◌, ℕ, Bool, true, false, ◌&&◌, ◌||◌, ◌==◌, cond, List, [], ◌∷◌, ◌++◌, filter}
 use Rattle.bbm_rules.proofs.Common.{Option, Some, None, refl, sym, ◌∙◌, ap, subst, append_assoc, eqb-true, eq-eqb}
-use Rattle.bbm_rules.proofs.Common.{or_parts, option_map_or, is_valid, Cover, Half, Second, Full, cover_of, Scope}
+use Rattle.bbm_rules.proofs.Common.{or_parts, option_map_or, unwrap_or, is_valid, Cover, Half, Second, Full, cover_of, Scope}
 use Rattle.bbm_rules.proofs.Common.{Heading, Event, Init, Null, Root, Unroot, Write, Dsb, Dmb, Isb, Tlbi, Msr, Lock}
 use Rattle.bbm_rules.proofs.Common.{Unlock, Trust, ValidWrite, cleansed_everywhere, held, last_valid, last_valid_after}
 use Rattle.bbm_rules.proofs.Common.{later, ◌>>=◌, among, any, with_number, Noted, events_of, page_of, Node, held_at}
@@ -9,10 +9,17 @@ use Rattle.bbm_rules.proofs.Common.{node_of, places_in, written_places}
 use Rattle.std.specs.List.{flat_map}
 use Rattle.bbm_tlbi_scope.specs.declared.entry.Cover.TheVariants.{None as NoCover}
 use Rattle.bbm_rules.specs.Prelude.{Kind}
-use Rattle.bbm_rules.specs.Tree.{tree}
+use Rattle.bbm_rules.specs.Covers.{cover_at, top_at, view_at}
+use Rattle.bbm_rules.specs.RegisterValues.{named_scope, vmid_of}
+use Rattle.bbm_rules.specs.Tree.{region_of, tree}
+use Rattle.bbm_tlbi_scope.specs.ScopeCovers.{at_end}
+use Rattle.bbm_tlbi_scope.specs.declared.entry.PlaceView.{PlaceView}
+use Rattle.bbm_tlbi_scope.specs.declared.op.TlbiOp.{TlbiOp}
 use Rattle.bbm_oracle_patterns.specs.Kept.{cover_in}
 use Rattle.bbm_oracle_patterns.specs.declared.kept.Covered.{Covered}
-use Rattle.bbm_oracle_trees.specs.Views.{cover_under, covers_of_page, entry_of, view_of}
+use Rattle.bbm_oracle_patterns.specs.declared.kept.Covering.{Covering}
+use Rattle.bbm_oracle_patterns.specs.declared.kept.Covering.TheVariants.{Whole, Top}
+use Rattle.bbm_oracle_trees.specs.Views.{cover_by, cover_for, cover_under, covers_of_page, entry_of, view_of}
 use Rattle.bbm_oracle_trees.proofs.Finds.{found_passes}
 
 -- ---- places that were never written hold nothing
@@ -161,37 +168,39 @@ module _ (f : ℕ → Cover) where
 
 -- ---- what a TLBI covers
 
-module _ (heading : Heading) (trust : Trust) (h : List Noted) (scope : Scope) (vmid : Option ℕ) where
+module _ (heading : Heading) (trust : Trust) (h : List Noted) (covering : Covering) (scope : Scope) (vmid : Option ℕ) where
   -- of a place of a page in a tree
   abbrev pub cover_at_node : Node → ℕ → Option ℕ → Cover
-  cover_at_node n place held = option_map_or (λ value. cover_of scope vmid (view_of heading trust h n place value)) held NoCover
+  cover_at_node n place held =
+      option_map_or (λ value. cover_by covering scope vmid (view_of heading trust h n place value)) held NoCover
 
   pub cover_under_node : (place : ℕ) (found : Option Node) (n : Node) → node_of heading trust h (page_of place) ≡ found →
       found ≡ Some n →
-      cover_at_node n place (held_at heading trust h n place) ≡ cover_under heading trust h scope vmid place
+      cover_at_node n place (held_at heading trust h n place) ≡ cover_under heading trust h covering scope vmid place
   cover_under_node place found n found_is is =
       by_held (held_at heading trust h n place)
-      ∙ sym (ap (λ (o : Option Node). option_map_or (cover_of scope vmid)
+      ∙ sym (ap (λ (o : Option Node). option_map_or (cover_by covering scope vmid)
       (o >>= (λ m. held_at heading trust h m place >>= (λ value. Some (view_of heading trust h m place value)))) NoCover) (found_is ∙ is))
     where
       by_held : (o : Option ℕ) → cover_at_node n place o
-          ≡ option_map_or (cover_of scope vmid) (o >>= (λ value. Some (view_of heading trust h n place value))) NoCover
+          ≡ option_map_or (cover_by covering scope vmid) (o >>= (λ value. Some (view_of heading trust h n place value))) NoCover
       by_held None = refl
       by_held (Some value) = refl
 
   -- of a place in no tree
   pub cover_under_none : (place : ℕ) → node_of heading trust h (page_of place) ≡ None →
-      NoCover ≡ cover_under heading trust h scope vmid place
+      NoCover ≡ cover_under heading trust h covering scope vmid place
   cover_under_none place none =
-      sym (ap (λ (o : Option Node). option_map_or (cover_of scope vmid)
+      sym (ap (λ (o : Option Node). option_map_or (cover_by covering scope vmid)
       (o >>= (λ m. held_at heading trust h m place >>= (λ value. Some (view_of heading trust h m place value)))) NoCover) none)
 
   -- of a place that was never written
   not_written : (q : ℕ) → any (λ n. among q (places_in (events_of h) n.page)) (tree heading trust h) ≡ false →
-      cover_under heading trust h scope vmid q ≡ NoCover
+      cover_under heading trust h covering scope vmid q ≡ NoCover
   not_written q none = by_node (node_of heading trust h (page_of q)) refl
     where
-      by_node : (found : Option Node) → node_of heading trust h (page_of q) ≡ found → cover_under heading trust h scope vmid q ≡ NoCover
+      by_node : (found : Option Node) → node_of heading trust h (page_of q) ≡ found
+          → cover_under heading trust h covering scope vmid q ≡ NoCover
       by_node None e = sym (cover_under_none q e)
       by_node (Some n) e =
           let passes : ((n.page == page_of q) ≡ true) × (among q (places_in (events_of h) n.page) ≡ false) =
@@ -201,13 +210,50 @@ module _ (heading : Heading) (trust : Trust) (h : List Noted) (scope : Scope) (v
           ∙ ap (cover_at_node n q) (none_held n.kind n.level q heading trust h n.page (eqb-true n.page (page_of q) passes.0) passes.1)
 
   -- of every place: what the list of the places of the trees says
-  pub covers_right : (q : ℕ) → cover_in (flat_map (covers_of_page heading trust h scope vmid) (tree heading trust h)) q
-      ≡ cover_under heading trust h scope vmid q
+  pub covers_right : (q : ℕ) → cover_in (flat_map (covers_of_page heading trust h covering scope vmid) (tree heading trust h)) q
+      ≡ cover_under heading trust h covering scope vmid q
   covers_right q =
-      in_pages (cover_under heading trust h scope vmid) (λ n. places_in (events_of h) n.page) (tree heading trust h) q
+      in_pages (cover_under heading trust h covering scope vmid) (λ n. places_in (events_of h) n.page) (tree heading trust h) q
       ∙ by_written (any (λ n. among q (places_in (events_of h) n.page)) (tree heading trust h)) (not_written q)
     where
-      by_written : (b : Bool) → (b ≡ false → cover_under heading trust h scope vmid q ≡ NoCover) →
-          cond b (cover_under heading trust h scope vmid q) NoCover ≡ cover_under heading trust h scope vmid q
+      by_written : (b : Bool) → (b ≡ false → cover_under heading trust h covering scope vmid q ≡ NoCover) →
+          cond b (cover_under heading trust h covering scope vmid q) NoCover ≡ cover_under heading trust h covering scope vmid q
       by_written true none = refl
       by_written false none = sym (none refl)
+
+  -- of a place whose region it misses
+  pub cover_missed : (n : Node) (place : ℕ) (held : Option ℕ)
+      → ((w : Option ℕ) (v : PlaceView) → v.region ≡ region_of n place → cover_of scope w v ≡ NoCover)
+      → NoCover ≡ cover_at_node n place held
+  cover_missed n place None misses = refl
+  cover_missed n place (Some value) misses = sym (by covering)
+    where
+      by : (c : Covering) → cover_by c scope vmid (view_of heading trust h n place value) ≡ NoCover
+      by Whole = misses vmid (view_of heading trust h n place value) refl
+      by Top = misses vmid (at_end (view_of heading trust h n place value)) refl
+
+module _ (heading : Heading) (trust : Trust) (h : List Noted) where
+  -- of each event: its covers, and its top covers
+  pub whole_covers : (e : Event) (place : ℕ) → cover_for heading trust h Whole e place ≡ cover_at heading trust h e place
+  whole_covers (Tlbi pe op xt) place = refl
+  whole_covers e place = refl
+
+  pub top_covers : (e : Event) (place : ℕ) → cover_for heading trust h Top e place ≡ top_at heading trust h e place
+  top_covers (Tlbi pe op xt) place = refl
+  top_covers e place = refl
+
+  -- a TLBI that names this scope
+  pub named_covers : (covering : Covering) (pe : ℕ) (op : TlbiOp) (xt : ℕ) (scope : Scope) (place : ℕ)
+      → named_scope heading (events_of h) pe op xt ≡ Some scope
+      → cover_under heading trust h covering scope (vmid_of heading (events_of h) pe) place
+      ≡ cover_for heading trust h covering (Tlbi pe op xt) place
+  named_covers covering pe op xt scope place named =
+      by_view scope (view_at heading trust h place)
+      ∙ sym (ap (λ (o : Option Scope). unwrap_or (o >>= (λ s. view_at heading trust h place >>= (λ view.
+      Some (cover_by covering s (vmid_of heading (events_of h) pe) view)))) NoCover) named)
+    where
+      by_view : (s : Scope) (o : Option PlaceView)
+          → option_map_or (cover_by covering s (vmid_of heading (events_of h) pe)) o NoCover
+          ≡ unwrap_or (o >>= (λ view. Some (cover_by covering s (vmid_of heading (events_of h) pe) view))) NoCover
+      by_view s None = refl
+      by_view s (Some view) = refl

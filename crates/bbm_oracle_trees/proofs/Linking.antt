@@ -131,8 +131,8 @@ module _ (heading : Heading) (trust : Trust) (h : List Noted) (n : Noted) (test 
 
 -- ---- what a place holds, and where it leads
 
-abbrev noted_as : Event → (ℕ → Cover) → ℕ → Noted
-noted_as e covers position = record { event = e; covers = covers; position = position }
+abbrev noted_as : Event → (ℕ → Cover) → (ℕ → Cover) → ℕ → Noted
+noted_as e covers tops position = record { event = e; covers = covers; tops = tops; position = position }
 
 abbrev is_dsb : Event → Bool
 is_dsb (Dsb pe dsb) = true
@@ -146,16 +146,16 @@ module _ (heading : Heading) (trust : Trust) (place : ℕ) where
   abbrev held_by : Option ValidWrite → Option ℕ
   held_by found = found >>= (λ w. cond (cleansed_everywhere heading trust place w.since) None (Some w.value))
 
-  same_cleansed : (e : Event) (covers : ℕ → Cover) (k : ℕ) (since : List Noted) → is_dsb e ≡ false
-      → cleansed_everywhere heading trust place (noted_as e covers k ∷ since) ≡ cleansed_everywhere heading trust place since
-  same_cleansed (Dsb pe dsb) covers k since other = cc
-  same_cleansed e covers k since other = refl
+  same_cleansed : (e : Event) (covers tops : ℕ → Cover) (k : ℕ) (since : List Noted) → is_dsb e ≡ false
+      → cleansed_everywhere heading trust place (noted_as e covers tops k ∷ since) ≡ cleansed_everywhere heading trust place since
+  same_cleansed (Dsb pe dsb) covers tops k since other = cc
+  same_cleansed e covers tops k since other = refl
 
-  later_held : (e : Event) (covers : ℕ → Cover) (k : ℕ) (found : Option ValidWrite) → is_dsb e ≡ false
-      → held_by (later (noted_as e covers k) found) ≡ held_by found
-  later_held e covers k None other = refl
-  later_held e covers k (Some w) other =
-      ap (λ (b : Bool). cond b None (Some w.value)) (same_cleansed e covers k w.since other)
+  later_held : (e : Event) (covers tops : ℕ → Cover) (k : ℕ) (found : Option ValidWrite) → is_dsb e ≡ false
+      → held_by (later (noted_as e covers tops k) found) ≡ held_by found
+  later_held e covers tops k None other = refl
+  later_held e covers tops k (Some w) other =
+      ap (λ (b : Bool). cond b None (Some w.value)) (same_cleansed e covers tops k w.since other)
 
   -- what is cleansed stays so
   stays_cleansed : (n : Noted) (since : List Noted) → cleansed_everywhere heading trust place since ≡ true
@@ -190,19 +190,19 @@ any_none : (ms : List Node) → any (λ m. false) ms ≡ false
 any_none [] = refl
 any_none (m ∷ ms) = any_none ms
 
-module _ (heading : Heading) (trust : Trust) (h : List Noted) (covers : ℕ → Cover) (k : ℕ) where
+module _ (heading : Heading) (trust : Trust) (h : List Noted) (covers tops : ℕ → Cover) (k : ℕ) where
   -- one that is no write, init or DSB
-  other_step : (e : Event) → is_other e ≡ true → Step heading trust h (noted_as e covers k) (λ m. false)
+  other_step : (e : Event) → is_other e ≡ true → Step heading trust h (noted_as e covers tops k) (λ m. false)
   other_step (Init pe page) is = cc
   other_step (Write pe at value) is = cc
   other_step (Dsb pe dsb) is = cc
   other_step e is = λ m place there ok below.
-      ap (leads m place) (later_held heading trust place e covers k (last_valid m.kind m.level place h) refl)
+      ap (leads m place) (later_held heading trust place e covers tops k (last_valid m.kind m.level place h) refl)
 
   -- a write
   module _ (pe at value : ℕ) where
     abbrev written : Noted
-    written = noted_as (Write pe at value) covers k
+    written = noted_as (Write pe at value) covers tops k
 
     abbrev found_now : Bool → Option ValidWrite → Option ValidWrite
     found_now here found = cond here (Some (record { value = value; since = [] })) (later written found)
@@ -231,7 +231,7 @@ module _ (heading : Heading) (trust : Trust) (h : List Noted) (covers : ℕ → 
         by_cut true e = refl
         by_cut false e = ap (λ (o : Option ℕ). o >>= (λ next. Some (node_below m place next))) e
     leads_same m place false found nowhere =
-        ap (leads m place) (later_held heading trust place (Write pe at value) covers k found refl)
+        ap (leads m place) (later_held heading trust place (Write pe at value) covers tops k found refl)
 
     write_step : Step heading trust h written (is_touched at value)
     write_step m place there ok below =
@@ -284,7 +284,7 @@ module _ (heading : Heading) (trust : Trust) (h : List Noted) (covers : ℕ → 
   -- a DSB
   module _ (pe : ℕ) (dsb : Barrier) where
     abbrev answered : Noted
-    answered = noted_as (Dsb pe dsb) covers k
+    answered = noted_as (Dsb pe dsb) covers tops k
 
     dsb_step : Step heading trust h answered (is_cut heading trust (answered ∷ h))
     dsb_step m place there ok below = by_write (last_valid m.kind m.level place h) refl
@@ -330,8 +330,8 @@ module _ (heading : Heading) (trust : Trust) (h : List Noted) (covers : ℕ → 
             by_cleansed w is (cleansed_everywhere heading trust place w.since) refl
             (cleansed_everywhere heading trust place (answered ∷ w.since)) refl
 
-  by_event : (e : Event) → leaves heading trust (noted_as e covers k ∷ h) (tree heading trust h) e ≡ true
-      → tree heading trust (noted_as e covers k ∷ h) ≡ tree heading trust h
+  by_event : (e : Event) → leaves heading trust (noted_as e covers tops k ∷ h) (tree heading trust h) e ≡ true
+      → tree heading trust (noted_as e covers tops k ∷ h) ≡ tree heading trust h
   by_event (Init pe page) left = cc
   by_event (Null pe page) left = cc
   by_event (Root pe kind lock page) left = cc
@@ -343,7 +343,7 @@ module _ (heading : Heading) (trust : Trust) (h : List Noted) (covers : ℕ → 
       same_tree heading trust h (answered pe dsb) (is_cut heading trust (answered pe dsb ∷ h)) (dsb_step pe dsb)
       (λ m ok. refl) refl (not-true (any (is_cut heading trust (answered pe dsb ∷ h)) (tree heading trust h)) left)
   by_event e left =
-      same_tree heading trust h (noted_as e covers k) (λ m. false) (other_step e refl) (λ m ok. refl) refl
+      same_tree heading trust h (noted_as e covers tops k) (λ m. false) (other_step e refl) (λ m ok. refl) refl
       (any_none (tree heading trust h))
 
 -- ---- what stays
@@ -351,7 +351,7 @@ module _ (heading : Heading) (trust : Trust) (h : List Noted) (covers : ℕ → 
 module _ (heading : Heading) (trust : Trust) (n : Noted) (h : List Noted)
     (left : leaves heading trust (n ∷ h) (tree heading trust h) n.event ≡ true) where
   pub tree_stays : tree heading trust (n ∷ h) ≡ tree heading trust h
-  tree_stays = by_event heading trust h n.covers n.position n.event left
+  tree_stays = by_event heading trust h n.covers n.tops n.position n.event left
 
   may_stay : (e : Event) → leaves heading trust (n ∷ h) (tree heading trust h) e ≡ true → (page : ℕ) (before : Bool)
       → may_be_fresh e page before ≡ before

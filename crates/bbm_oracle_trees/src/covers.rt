@@ -6,7 +6,7 @@ ghost use Rattle.bbm_descriptor.specs.Descriptor.{desc_of};
 ghost use Rattle.bbm_tlbi_scope.specs.declared.entry.Cover.TheVariants.{None as NoCover};
 ghost use Rattle.bbm_tlbi_scope.specs.declared.entry.PlaceView.{PlaceView as SeenPlace};
 ghost use Rattle.bbm_tlbi_scope.specs.ScopeCovers.{cover_of};
-ghost use Rattle.bbm_rules.specs.Covers as covering;
+ghost use Rattle.bbm_rules.specs.Covers.{is_global as leaf_for_all};
 ghost use Rattle.bbm_rules.specs.Notes.{events_of};
 ghost use Rattle.bbm_rules.specs.RegisterValues.{vmid_of};
 ghost use Rattle.bbm_rules.specs.Tags.{tag_set, tags_of};
@@ -14,16 +14,17 @@ ghost use Rattle.bbm_rules.specs.Tree as trees;
 ghost use Rattle.bbm_rules.specs.Values.{places_in};
 ghost use Rattle.bbm_oracle_patterns.specs.Kept.{cover_in};
 ghost use Rattle.bbm_oracle_trees.specs.Past.{notes};
-ghost use Rattle.bbm_oracle_trees.specs.Views.{AreTags, cover_under, covered_under, entry_of, view_of};
+ghost use Rattle.bbm_oracle_trees.specs.Views.{AreTags, cover_by, cover_for, cover_under, covered_under, entry_of};
+ghost use Rattle.bbm_oracle_trees.specs.Views.{view_of};
 
 use crate::log::Log;
 use crate::node::Node;
 use crate::tree::{first_of, is_childless, next_page};
 use bbm_descriptor::{Desc, read};
 use bbm_events::Event;
-use bbm_oracle_patterns::{Covered, Evidence};
+use bbm_oracle_patterns::{Covered, Covering, Evidence};
 use bbm_regimes::{Interval, Kind, Level, NoMemory, Page, Pe, Place};
-use bbm_tlbi_scope::{Cover, PlaceView, Scope, TagSet, cover};
+use bbm_tlbi_scope::{Cover, PlaceView, Scope, TagSet, cover, top_cover};
 use std::alloc::Global;
 
 /// The tags that a root holds. Source: project's own choice.
@@ -44,13 +45,15 @@ struct Known<'a> {
     tags: &'a [RootTags],
 }
 
-/// What a TLBI names at its issue.
+/// What a TLBI names at its issue, and what is asked of it.
 #[derive(Clone, Copy)]
 struct NamedTlbi {
     /// What it is for.
     scope: Scope,
     /// The VMID of its issuer, None where there are several.
     vmid: Option<u16>,
+    /// Which cover of a place is asked.
+    covering: Covering,
 }
 
 /// The tags of each declared root.
@@ -89,7 +92,7 @@ fn tags_at<E: Evidence>(
 
 /// Whether the value, at this kind and level, is a leaf for every ASID.
 fn is_global(kind: Kind, level: Level, value: u64) -> bool
-    ensures { result ≡ covering.is_global (desc_of kind level value) }
+    ensures { result ≡ leaf_for_all (desc_of kind level value) }
 {
     match read(kind, level, value) {
         Desc::Leaf { global, .. } => global,
@@ -130,6 +133,16 @@ fn misses(scope: &Scope, region: Interval) -> bool
     scope.family.has_page() && !scope.names_some(region) && !scope.names_all(region)
 }
 
+/// How far the TLBI covers a place that it sees so.
+fn cover_seen(tlbi: &NamedTlbi, view: PlaceView) -> Cover
+    ensures { result ≡ cover_by tlbi.now.covering tlbi.now.scope tlbi.now.vmid view }
+{
+    match tlbi.covering {
+        Covering::Whole => cover(tlbi.scope, tlbi.vmid, view),
+        Covering::Top => top_cover(tlbi.scope, tlbi.vmid, view),
+    }
+}
+
 /// How far the TLBI covers a place of the page. What the place holds is asked only where the TLBI is for a page of its
 /// region.
 fn cover_in_node<E: Evidence>(
@@ -141,8 +154,8 @@ fn cover_in_node<E: Evidence>(
     place: Place,
 ) -> Result<Cover, NoMemory>
     requires { AreTags log.now.heading log.now.trust (events_of (notes log.now)) tags.now }
-    ensures { IfOk result (λ cover. cover ≡ option_map_or (λ value. cover_of tlbi.now.scope tlbi.now.vmid
-        (view_of log.now.heading log.now.trust (notes log.now) node.now place value))
+    ensures { IfOk result (λ cover. cover ≡ option_map_or (λ value. cover_by tlbi.now.covering tlbi.now.scope
+        tlbi.now.vmid (view_of log.now.heading log.now.trust (notes log.now) node.now place value))
         (trees.held_at log.now.heading log.now.trust (notes log.now) node.now place) NoCover) }
 {
     if misses(&tlbi.scope, node.region(place)) {
@@ -151,7 +164,7 @@ fn cover_in_node<E: Evidence>(
     match log.held(node.kind, node.level, place) {
         Some(value) => {
             let view = view(alloc, log, tags, node, place, value)?;
-            Ok(cover(tlbi.scope, tlbi.vmid, view))
+            Ok(cover_seen(tlbi, view))
         }
         None => Ok(Cover::None),
     }
@@ -168,7 +181,8 @@ fn cover_at<E: Evidence>(
     requires tree { known.now.tree.now ≡ trees.tree log.now.heading log.now.trust (notes log.now) }
     requires tags { AreTags log.now.heading log.now.trust (events_of (notes log.now)) known.now.tags.now }
     ensures { IfOk result (λ cover. cover
-        ≡ cover_under log.now.heading log.now.trust (notes log.now) tlbi.now.scope tlbi.now.vmid place) }
+        ≡ cover_under log.now.heading log.now.trust (notes log.now) tlbi.now.covering tlbi.now.scope tlbi.now.vmid
+        place) }
 {
     match first_of(known.tree, place.page()) {
         Some(node) => cover_in_node(alloc, log, known.tags, tlbi, node, place),
@@ -201,7 +215,8 @@ fn add_covers<E: Evidence>(
     requires tree { known.now.tree.now ≡ trees.tree log.now.heading log.now.trust (notes log.now) }
     requires tags { AreTags log.now.heading log.now.trust (events_of (notes log.now)) known.now.tags.now }
     ensures { OnOk result (covers.new.items ≡ covers.old.items
-        ++ flat_map (covered_under log.now.heading log.now.trust (notes log.now) tlbi.now.scope tlbi.now.vmid)
+        ++ flat_map (covered_under log.now.heading log.now.trust (notes log.now) tlbi.now.covering tlbi.now.scope
+        tlbi.now.vmid)
         (places_in (events_of (notes log.now)) page)) }
 {
     for place in &log.places_in(alloc, page)? {
@@ -220,7 +235,8 @@ fn covers_under<E: Evidence>(
 ) -> Result<Vec<Covered>, NoMemory>
     requires { tree.now ≡ trees.tree log.now.heading log.now.trust (notes log.now) }
     ensures { IfOk result (λ covers. (place : ℕ) → cover_in covers.items place
-        ≡ cover_under log.now.heading log.now.trust (notes log.now) tlbi.now.scope tlbi.now.vmid place) }
+        ≡ cover_under log.now.heading log.now.trust (notes log.now) tlbi.now.covering tlbi.now.scope tlbi.now.vmid
+        place) }
 {
     let tags = root_tags(alloc, log)?;
     let known = Known { tree, tags: &tags };
@@ -238,32 +254,39 @@ fn tlbi_covers<E: Evidence>(
     tree: &[Node],
     pe: Pe,
     scope: Scope,
+    covering: Covering,
 ) -> Result<Vec<Covered>, NoMemory>
     requires { tree.now ≡ trees.tree log.now.heading log.now.trust (notes log.now) }
     ensures { IfOk result (λ covers. (place : ℕ) → cover_in covers.items place
-        ≡ cover_under log.now.heading log.now.trust (notes log.now) scope
+        ≡ cover_under log.now.heading log.now.trust (notes log.now) covering scope
         (vmid_of log.now.heading (events_of (notes log.now)) pe) place) }
 {
     let vmid = log.vmid_of(alloc, pe)?;
-    covers_under(alloc, log, tree, &NamedTlbi { scope, vmid })
+    let tlbi = NamedTlbi {
+        scope,
+        vmid,
+        covering,
+    };
+    covers_under(alloc, log, tree, &tlbi)
 }
 
-/// The places of the trees that the event, coming after those of the log, covers, and how far. `NoMemory` where there
-/// is none. Source: Arm ARM (DDI 0487), "TLB maintenance instructions"; the grades of cover are the project's own
+/// The places of the trees that the event, coming after those of the log, covers, and how far, by its covers or its top
+/// covers. `NoMemory` where there is none. Source: Arm ARM (DDI 0487), "TLB maintenance instructions"; the grades of cover are the project's own
 /// choice.
 pub fn covers_of<E: Evidence>(
     alloc: Global,
     log: &Log<E>,
     tree: &[Node],
     event: &Event,
+    covering: Covering,
 ) -> Result<Vec<Covered>, NoMemory>
     requires { tree.now ≡ trees.tree log.now.heading log.now.trust (notes log.now) }
     ensures { IfOk result (λ covers. (place : ℕ) → cover_in covers.items place
-        ≡ covering.cover_at log.now.heading log.now.trust (notes log.now) event.now place) }
+        ≡ cover_for log.now.heading log.now.trust (notes log.now) covering event.now place) }
 {
     match *event {
         Event::Tlbi { pe, op, xt } => match log.named_scope(alloc, pe, op, xt)? {
-            Some(scope) => tlbi_covers(alloc, log, tree, pe, scope),
+            Some(scope) => tlbi_covers(alloc, log, tree, pe, scope, covering),
             None => Ok(Vec::new(alloc)),
         },
         _ => Ok(Vec::new(alloc)),

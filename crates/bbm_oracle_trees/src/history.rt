@@ -13,6 +13,7 @@ ghost use Rattle.bbm_rules.specs.Phases as phases;
 ghost use Rattle.bbm_rules.specs.Tags as tags;
 ghost use Rattle.bbm_rules.specs.Tree as trees;
 ghost use Rattle.bbm_rules.specs.Values.{value_of};
+ghost use Rattle.bbm_oracle_patterns.specs.Kept.{notes_of};
 ghost use Rattle.bbm_oracle_patterns.specs.PlacePhases.{phase_at};
 ghost use Rattle.bbm_oracle_trees.specs.Past.{notes};
 ghost use Rattle.bbm_oracle_trees.specs.TreePhases.{phase_among};
@@ -26,7 +27,7 @@ use crate::node::Node;
 use crate::tree::{first_of, is_childless};
 use crate::trees::{Trees, bring};
 use bbm_events::{Event, Header};
-use bbm_oracle_patterns::{Evidence, Kept};
+use bbm_oracle_patterns::{Covering, Evidence, Kept};
 use bbm_oracle_tags::{Holding, Keeper};
 use bbm_regimes::{NoMemory, Page, Pe, Place, Tag};
 use bbm_rules::Phase;
@@ -60,6 +61,27 @@ fn phase_of<E: Evidence>(log: &Log<E>, node: &Node, place: Place, pe: Pe) -> Pha
 {
     let value = log.value_of(place);
     log.phase_in(node.kind, node.level, place, value, pe)
+}
+
+/// The event, coming after those of the log, with what it covers, where these are the trees.
+fn noted<E: Evidence>(
+    alloc: Global,
+    log: &Log<E>,
+    tree: &[Node],
+    event: &Event,
+) -> Result<Kept, NoMemory>
+    requires { tree.now ≡ trees.tree log.now.heading log.now.trust (notes log.now) }
+    ensures event { IfOk result (λ kept. kept.event ≡ event.now) }
+    ensures note { IfOk result (λ kept. notes_of (kept ∷ log.now.kept)
+        ≡ note log.now.heading log.now.trust (notes log.now) event.now ∷ notes log.now) }
+{
+    let covers = covers_of(alloc, log, tree, event, Covering::Whole)?;
+    let tops = covers_of(alloc, log, tree, event, Covering::Top)?;
+    Ok(Kept {
+        event: *event,
+        covers,
+        tops,
+    })
 }
 
 impl<E: Evidence> History<E> {
@@ -205,8 +227,8 @@ impl<E: Evidence> History<E> {
             ≡ note self.old.heading self.old.trust (notes self.old) event ∷ notes self.old) }
         ensures unchanged { OnErr result (self.new ≡ self.old) }
     {
-        let covers = covers_of(alloc, &self.log, &self.trees.nodes, &event)?;
-        let before = self.log.take(alloc, &event, covers)?;
+        let kept = noted(alloc, &self.log, &self.trees.nodes, &event)?;
+        let before = self.log.take(alloc, kept)?;
         match bring(alloc, &self.log, &mut self.trees, &event) {
             Ok(()) => Ok(()),
             Err(_) => {

@@ -13,7 +13,7 @@ ghost use Rattle.bbm_oracle_patterns.specs.PlacePhases.{phase_at};
 ghost use Rattle.bbm_oracle_trees.specs.HistoryFits.{fits_root};
 
 use bbm_events::{Event, Header};
-use bbm_oracle_patterns::{Covered, Evidence, Kept, TreePlace, held, phase_in};
+use bbm_oracle_patterns::{Evidence, Kept, TreePlace, held, phase_in};
 use bbm_oracle_tags::{Declared, named_scope, places_in, roots_of, tag_set_of, value_of, vmid_of};
 use bbm_regimes::{Kind, Level, NoMemory, Page, Pe, Place};
 use bbm_rules::Phase;
@@ -171,28 +171,20 @@ impl<E: Evidence> Log<E> {
 
     /// Takes one more event. It gives what the evidence was before, to go back to. `NoMemory` where there is none; then
     /// it is as before.
-    pub fn take(
-        &mut self,
-        alloc: Global,
-        event: &Event,
-        covers: Vec<Covered>,
-    ) -> Result<E, NoMemory>
-        requires { fits_heading self.old.heading event.now ≡ true }
+    pub fn take(&mut self, alloc: Global, kept: Kept) -> Result<E, NoMemory>
+        requires { fits_heading self.old.heading kept.event ≡ true }
         ensures heading { self.new.heading ≡ self.old.heading }
         ensures trust { self.new.trust ≡ self.old.trust }
-        ensures taken { OnOk result (self.new.kept ≡ record { event = event.now; covers = covers } ∷ self.old.kept) }
+        ensures taken { OnOk result (self.new.kept ≡ kept ∷ self.old.kept) }
         ensures before { IfOk result (λ before. E.has_taken before self.old.heading (notes self.old)) }
         ensures same { IfOk result (λ before. E.trust before ≡ self.old.trust) }
         ensures unchanged { OnErr result (self.new ≡ self.old) }
     {
-        let kept = Kept {
-            event: *event,
-            covers,
-        };
+        let event = kept.event;
         self.events.reserve(1)?;
         self.kept.reserve(1)?;
         let after = self.evidence.after(alloc, &self.header, &self.kept, &kept)?;
-        self.events.push(*event).unwrap();
+        self.events.push(event).unwrap();
         self.kept.push(kept).unwrap();
         Ok(mem::replace(&mut self.evidence, after))
     }

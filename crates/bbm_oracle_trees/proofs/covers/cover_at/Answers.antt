@@ -12,9 +12,9 @@ returns-in-Some g c =
     let at : node_of past.heading past.trust (notes past) (page_of c.args.place) ≡ Some node =
     sym (rw (c.requires.tree, c.page.ensures) at c.in-Some.ensures) in
     IfOk-weaker c.cover_in_node.result
-    (λ (cover : Cover). cover ≡ cover_at_node past.heading past.trust (notes past) tlbi.scope tlbi.vmid node
+    (λ (cover : Cover). cover ≡ cover_at_node past.heading past.trust (notes past) tlbi.covering tlbi.scope tlbi.vmid node
     c.args.place (held_at past.heading past.trust (notes past) node c.args.place))
-    (λ (cover : Cover). cover ≡ cover_under past.heading past.trust (notes past) tlbi.scope tlbi.vmid c.args.place)
+    (λ (cover : Cover). cover ≡ cover_under past.heading past.trust (notes past) tlbi.covering tlbi.scope tlbi.vmid c.args.place)
     (λ cover e. e
-    ∙ cover_under_node past.heading past.trust (notes past) tlbi.scope tlbi.vmid c.args.place (Some node) node at refl)
+    ∙ cover_under_node past.heading past.trust (notes past) tlbi.covering tlbi.scope tlbi.vmid c.args.place (Some node) node at refl)
     c.cover_in_node.ensures

@@ -12,7 +12,7 @@ returns g c = λ place.
     ap (λ (cs : List Covered). cover_in cs place)
     (c.loop-node.invariant
     ∙ ap (flat_map (covers_of_page c.args.log.now.heading c.args.log.now.trust (notes c.args.log.now)
-    c.args.tlbi.now.scope c.args.tlbi.now.vmid))
+    c.args.tlbi.now.covering c.args.tlbi.now.scope c.args.tlbi.now.vmid))
     (take_all c.loop-node.node-index c.args.tree.now c.loop-node-test.false ∙ c.requires))
-    ∙ covers_right c.args.log.now.heading c.args.log.now.trust (notes c.args.log.now) c.args.tlbi.now.scope
-    c.args.tlbi.now.vmid place
+    ∙ covers_right c.args.log.now.heading c.args.log.now.trust (notes c.args.log.now)
+    c.args.tlbi.now.covering c.args.tlbi.now.scope c.args.tlbi.now.vmid place

@@ -6,5 +6,5 @@ use Rattle.bbm_oracle_trees.proofs.covers.covers_under.Given as goal
 
 abbrev pub invariant-loop-node : goal.invariant-loop-node
 invariant-loop-node g l = l.covers.items
-    ≡ flat_map (covers_of_page l.log.heading l.log.trust (notes l.log) l.tlbi.scope l.tlbi.vmid)
+    ≡ flat_map (covers_of_page l.log.heading l.log.trust (notes l.log) l.tlbi.covering l.tlbi.scope l.tlbi.vmid)
     (take l.node-index l.tree)

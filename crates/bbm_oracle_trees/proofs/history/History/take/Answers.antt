@@ -1,15 +1,15 @@
-use Rattle.bbm_rules.proofs.Common.{refl, ◌∙◌, ap}
+use Rattle.bbm_rules.proofs.Common.{◌∙◌, ap}
 use Rattle.bbm_oracle_patterns.specs.Kept.{notes_of}
 use Rattle.bbm_oracle_trees.specs.Past.{Past}
-use Rattle.bbm_oracle_trees.proofs.Noting.{noted_more, stands_more}
+use Rattle.bbm_oracle_trees.proofs.Noting.{stands_more}
 use Rattle.bbm_oracle_trees.proofs.history.History.take.Goals as goal
 
 pub bring-requires : goal.bring-requires
 bring-requires g c = record {
-  newest = record { event = c.args.event; covers = c.in_ok-covers.covers };
+  newest = c.in_ok-kept.kept;
   older = c.self.inside.log.kept;
   split = c.in_ok-before.ensures.taken;
-  is = refl;
+  is = c.in_ok-kept.ensures.event;
   before = rw (c.take.ensures.heading, c.take.ensures.trust) c.self.invariant;
 }
 
@@ -28,9 +28,7 @@ invariant_of-self-in-Err g c =
 pub returns-in-Ok-clause-taken : goal.returns-in-Ok-clause-taken
 returns-in-Ok-clause-taken g c =
     rw (← c.self.view_is)
-    (ap notes_of c.in_ok-before.ensures.taken
-    ∙ noted_more c.self.inside.log.heading c.self.inside.log.trust c.self.inside.log.kept
-    (record { event = c.args.event; covers = c.in_ok-covers.covers }) c.in_ok-covers.ensures)
+    (ap notes_of c.in_ok-before.ensures.taken ∙ c.in_ok-kept.ensures.note)
 
 pub returns-in-Ok-clause-stands : goal.returns-in-Ok-clause-stands
 returns-in-Ok-clause-stands g c =
