@@ -1,7 +1,8 @@
 -- The phase of a place, by the trace of its last valid write.
-use Rattle.bbm_rules.proofs.Common.{◌≡◌, ℕ, Bool, true, false, refl, cond, List, Option, Some, None, sym, ◌∙◌, ap}
+use Rattle.bbm_rules.proofs.Common.{◌≡◌, ℕ, ◌||◌, Bool, true, false, refl, cond, List, Option, Some, None, sym, ◌∙◌, ap}
 use Rattle.bbm_rules.proofs.Common.{option_and_then, unwrap_or, is_valid, Trust, cleansed, half, seen, ValidWrite}
 use Rattle.bbm_rules.proofs.Common.{cleansed_everywhere, last_valid, Noted, broken_phase, Heading}
+use Rattle.bbm_rules.specs.Held.{emptied}
 use Rattle.bbm_rules.specs.Prelude.{Kind}
 use Rattle.bbm_rules.specs.declared.phase.Phase.TheVariants.{Clean, Live}
 use Rattle.bbm_oracle_patterns.specs.PlacePhases.{furthest, phase_at}
@@ -11,7 +12,7 @@ module _ (heading : Heading) (trust : Trust) (kind : Kind) (level place value p 
   -- the last valid write is found, and it is known what is cleansed, half and seen since
   pub phase_found : (everywhere valid clean halfway published : Bool) →
       last_valid kind level place h ≡ Some (record { value = old; since = since }) →
-      everywhere ≡ cleansed_everywhere heading trust place since → valid ≡ is_valid kind level value →
+      everywhere ≡ (emptied heading trust kind level place h || cleansed_everywhere heading trust place since) → valid ≡ is_valid kind level value →
       clean ≡ cleansed heading trust place p since → halfway ≡ half heading place p since
       → published ≡ seen heading place p since →
       cond everywhere Clean (cond valid Live (furthest clean halfway published))
@@ -25,9 +26,9 @@ module _ (heading : Heading) (trust : Trust) (kind : Kind) (level place value p 
       ∙ ap (λ (b : Bool). cond everywhere Clean (cond b Live (broken_phase heading trust place p since))) valid_is
       ∙ ap (λ (b : Bool). cond b Clean (cond (is_valid kind level value) Live
       (broken_phase heading trust place p since))) all_is
-      ∙ by (cleansed_everywhere heading trust place since)
+      ∙ by (emptied heading trust kind level place h || cleansed_everywhere heading trust place since)
       ∙ ap (λ (o : Option ValidWrite). unwrap_or
-      (option_and_then (λ w. cond (cleansed_everywhere heading trust place w.since) None
+      (option_and_then (λ w. cond (emptied heading trust kind level place h || cleansed_everywhere heading trust place w.since) None
       (Some (cond (is_valid kind level value) Live (broken_phase heading trust place p w.since)))) o) Clean) (sym found)
     where
       by : (b : Bool) → cond b Clean (cond (is_valid kind level value) Live (broken_phase heading trust place p since))

@@ -4,7 +4,7 @@ ghost use Rattle.std.specs.Prelude.{IfOk};
 
 use crate::evidence::Evidence;
 use crate::kept::Kept;
-use crate::trace::{cleansed_everywhere, trace_of};
+use crate::trace::{above_everywhere, cleansed_everywhere, trace_of};
 use bbm_events::Header;
 use bbm_oracle_tags::AllPatterns;
 use bbm_regimes::{NoMemory, PeMask, Place};
@@ -19,6 +19,10 @@ impl Evidence for AllPatterns {
 
     fn is_cleansed(&self, header: &Header, log: &[Kept], from: usize, place: Place) -> bool {
         cleansed_everywhere(header, &log[from..], place)
+    }
+
+    fn is_above(&self, header: &Header, log: &[Kept], from: usize, place: Place) -> bool {
+        above_everywhere(header, &log[from..], place)
     }
 
     fn after(

@@ -35,6 +35,14 @@ pub trait Evidence: TagEvidence + Drop {
         ensures { result ≡ holding.cleansed_everywhere header.now (Self.trust self.now) place
             (notes_behind from (reverse (drop from log.now))) };
 
+    /// Whether it is above so at every PE of the header: cleansed, with top covers in the place of covers. No TLB keeps an
+    /// entry that ends in its last valid value then.
+    fn is_above(&self, header: &Header, log: &[Kept], from: usize, place: Place) -> bool
+        requires taken { has_taken self.now header.now (notes_of (reverse log.now)) }
+        requires within { from ≤ length log.now }
+        ensures { result ≡ holding.above_everywhere header.now (Self.trust self.now) place
+            (notes_behind from (reverse (drop from log.now))) };
+
     /// What it is once it has taken one more event, which comes behind those of the log. `NoMemory` where there is
     /// none.
     fn after(

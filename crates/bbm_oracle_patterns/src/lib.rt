@@ -19,5 +19,5 @@ mod walk;
 
 pub use evidence::Evidence;
 pub use kept::{Covered, Covering, Kept};
-pub use search::{TreePlace, ValidWrite, held, last_valid, phase_in};
+pub use search::{TreePlace, ValidWrite, held, last_valid, phase_in, value_above};
 pub use trace::{Trace, above_everywhere, cleansed_everywhere, trace_for, trace_of};

@@ -1,10 +1,11 @@
 //! The last valid write of a place, and what the place holds.
 
-ghost use Rattle.std.specs.Prelude.{◌≡◌, ◌<◌, length, reverse, IfSome};
+ghost use Rattle.std.specs.Prelude.{◌≡◌, ◌<◌, ◌≤◌, ◌||◌, drop, length, reverse, IfSome};
 ghost use Rattle.bbm_regimes.specs.PeMask.{pe_in};
 ghost use Rattle.bbm_rules.specs.Held as spec;
-ghost use Rattle.bbm_oracle_patterns.specs.Kept.{notes_of, write_in};
+ghost use Rattle.bbm_oracle_patterns.specs.Kept.{notes_behind, notes_of, write_in};
 ghost use Rattle.bbm_oracle_patterns.specs.Lasts.{TellsOf};
+ghost use Rattle.bbm_oracle_patterns.specs.PlacePhases as phases;
 ghost use Rattle.bbm_oracle_patterns.specs.PlacePhases.{phase_at, furthest};
 
 use crate::evidence::Evidence;
@@ -90,26 +91,68 @@ pub fn last_valid(log: &[Kept], kind: Kind, level: Level, place: Place) -> Optio
     None
 }
 
-/// The value that the place holds, where it has this kind and this level: that of its last valid write since the last
-/// init of its page, unless it is cleansed since at every PE of the header. The log is oldest first, and the evidence
+/// Whether the last valid value of the place isn't held any more: the place is emptied, or it is cleansed at every PE of
+/// the header by the events from this index on.
+fn is_gone<E: Evidence>(
+    evidence: &E,
+    header: &Header,
+    log: &[Kept],
+    from: usize,
+    place: Place,
+    emptied: bool,
+) -> bool
+    requires taken { E.has_taken evidence.now header.now (notes_of (reverse log.now)) }
+    requires within { from ≤ length log.now }
+    ensures { result ≡ (emptied || spec.cleansed_everywhere header.now (E.trust evidence.now) place
+        (notes_behind from (reverse (drop from log.now)))) }
+{
+    emptied || evidence.is_cleansed(header, log, from, place)
+}
+
+/// The value that the place holds, which is emptied or not, as told: that of its last valid write since the last init of
+/// its page, unless it is emptied, or cleansed since at every PE of the header. The log is oldest first, and the evidence
 /// has taken it.
 pub fn held<E: Evidence>(
     evidence: &E,
     header: &Header,
     log: &[Kept],
-    kind: Kind,
-    level: Level,
-    place: Place,
+    seat: &TreePlace,
+    emptied: bool,
 ) -> Option<u64>
     requires { E.has_taken evidence.now header.now (notes_of (reverse log.now)) }
-    ensures { result ≡ spec.held header.now (E.trust evidence.now) kind level place (notes_of (reverse log.now)) }
+    ensures { result ≡ spec.held_unless header.now (E.trust evidence.now) emptied seat.now.kind seat.now.level
+        seat.now.place (notes_of (reverse log.now)) }
 {
-    match last_valid(log, kind, level, place) {
+    match last_valid(log, seat.kind, seat.level, seat.place) {
         Some(write) => {
-            if evidence.is_cleansed(header, log, write.index + 1, place) {
+            if is_gone(evidence, header, log, write.index + 1, seat.place, emptied) {
                 None
             } else {
                 Some(write.value)
+            }
+        }
+        None => None,
+    }
+}
+
+/// The last valid value of the place since the last init of its page, where the place is above at every PE of the header
+/// since. The log is oldest first, and the evidence has taken it.
+pub fn value_above<E: Evidence>(
+    evidence: &E,
+    header: &Header,
+    log: &[Kept],
+    seat: &TreePlace,
+) -> Option<u64>
+    requires { E.has_taken evidence.now header.now (notes_of (reverse log.now)) }
+    ensures { result ≡ phases.value_above header.now (E.trust evidence.now) seat.now.kind seat.now.level seat.now.place
+        (notes_of (reverse log.now)) }
+{
+    match last_valid(log, seat.kind, seat.level, seat.place) {
+        Some(write) => {
+            if evidence.is_above(header, log, write.index + 1, seat.place) {
+                Some(write.value)
+            } else {
+                None
             }
         }
         None => None,
@@ -131,25 +174,28 @@ fn broken_phase(cleansed: PeMask, half: PeMask, seen: PeMask, pe: Pe) -> Phase
     }
 }
 
-/// The phase at the PE of a place of a tree that now has this value: clean where it holds nothing; live where its value
-/// is valid; else the furthest of cleansed, half and seen, or broken where it is none of them. The log is oldest first,
-/// and the evidence has taken it.
+/// The phase at the PE of a place of a tree that now has this value, and is emptied or not, as told: clean where it holds
+/// nothing; live where its value is valid; else the furthest of cleansed, half and seen, or broken where it is none of
+/// them. The log is oldest first, and the evidence has taken it.
 pub fn phase_in<E: Evidence>(
     evidence: &E,
     header: &Header,
     log: &[Kept],
     seat: &TreePlace,
+    emptied: bool,
     value: u64,
     pe: Pe,
 ) -> Phase
-    requires { E.has_taken evidence.now header.now (notes_of (reverse log.now)) }
+    requires taken { E.has_taken evidence.now header.now (notes_of (reverse log.now)) }
+    requires told { emptied ≡ spec.emptied header.now (E.trust evidence.now) seat.now.kind seat.now.level seat.now.place
+        (notes_of (reverse log.now)) }
     ensures { result ≡ phase_at header.now (E.trust evidence.now) seat.now.kind seat.now.level seat.now.place value pe
         (notes_of (reverse log.now)) }
 {
     match last_valid(log, seat.kind, seat.level, seat.place) {
         Some(write) => {
             let from = write.index + 1;
-            if evidence.is_cleansed(header, log, from, seat.place) {
+            if is_gone(evidence, header, log, from, seat.place, emptied) {
                 Phase::Clean
             } else if is_valid(seat.kind, seat.level, value) {
                 Phase::Live
