@@ -8,6 +8,9 @@ use Rattle.bbm_rules.proofs.Common.{ne_eqb, length-reverse, reverse-append, take
 use Rattle.bbm_rules.proofs.Common.{Is, Claim, Place, Two, Taken, PeMask, Listed, cleansed, any, Noted, Heading, Event}
 use Rattle.bbm_rules.proofs.Common.{Dsb, is_none_of}
 use Rattle.bbm_regimes.specs.PeMask.{pe_in}
+use Rattle.bbm_rules.specs.Notes.{topped}
+use Rattle.bbm_rules.proofs.Common.{map, map-append, reverse_more}
+use Rattle.bbm_oracle_patterns.specs.Kept.{note_of}
 use Rattle.bbm_claims.specs.Cleansings.{Tell, counts, is_barrier}
 use Rattle.bbm_claims.specs.Marks.{completed_mark, end_of}
 use Rattle.bbm_claims.proofs.Claimed.{cleansed_is}
@@ -29,6 +32,10 @@ whole log i within =
     ∙ ap (λ (n : ℕ). notes_behind n (reverse (drop i log)) ++ notes_behind 0 (reverse (take i log))) count
     ∙ ap (λ (ns : List Noted). notes_behind i (reverse (drop i log)) ++ ns) (sym (notes_whole (reverse (take i log))))
 
+length_topped : (h : List Noted) → length (map topped h) ≡ length h
+length_topped [] = refl
+length_topped (n ∷ h) = ap suc (length_topped h)
+
 module _ (heading : Heading) (known : Known heading) where
   -- what is kept says at which PEs the place is cleansed
   pub kept_cleansed : (claims : List Claim) (kept : List Cleansing) (log : List Kept) (from place p : ℕ)
@@ -46,6 +53,44 @@ module _ (heading : Heading) (known : Known heading) where
       ∙ ap (λ (h : List Noted). any (is_true_of heading place p (length older) h) claims) at
       ∙ sym (cleansed_is heading known place p claims newer older
       (subst (λ (h : List Noted). Numbered h) at (numbered (reverse log))))
+
+  numbered_topped : (h : List Noted) → Numbered h → Numbered (map topped h)
+  numbered_topped [] x = tt
+  numbered_topped (n ∷ h) x = (x.0 ∙ ap suc (sym (length_topped h)), numbered_topped h x.1)
+
+  -- the same of top covers
+  pub kept_above : (claims : List Claim) (kept : List Cleansing) (log : List Kept) (from place p : ℕ)
+      → from ≤ length log → Tell heading claims (map topped (notes_of (reverse log))) kept
+      → tells kept place p from
+      ≡ cleansed heading (Listed claims) place p (map topped (notes_behind from (reverse (drop from log))))
+  kept_above claims kept log from place p within tell =
+      let newer : List Noted = map topped (notes_behind from (reverse (drop from log))) in
+      let older : List Noted = map topped (notes_of (reverse (take from log))) in
+      let at : map topped (notes_of (reverse log)) ≡ newer ++ older = ap (map topped) (whole log from within)
+      ∙ map-append topped (notes_behind from (reverse (drop from log))) (notes_of (reverse (take from log))) in
+      let count : from ≡ length older
+      = sym (length_topped (notes_of (reverse (take from log))) ∙ length_notes (reverse (take from log))
+      ∙ length_before log from within) in
+      tell place p from
+      ∙ ap (λ (n : ℕ). any (is_true_of heading place p n (map topped (notes_of (reverse log)))) claims) count
+      ∙ ap (λ (h : List Noted). any (is_true_of heading place p (length older) h) claims) at
+      ∙ sym (cleansed_is heading known place p claims newer older
+      (subst (λ (h : List Noted). Numbered h) at (numbered_topped (notes_of (reverse log)) (numbered (reverse log)))))
+
+-- one more event of the log as if each covered as far as its top cover says
+pub topped_more : (tops log : List Kept) (i : ℕ) (top kept : Kept) → i < length log → kept ≡ get_or log i kept
+    → notes_of (reverse tops) ≡ map topped (notes_of (reverse (take i log)))
+    → ((before : ℕ) → note_of before top ≡ topped (note_of before kept))
+    → notes_of (reverse (tops ++ top ∷ [])) ≡ map topped (notes_of (reverse (take (i + 1) log)))
+topped_more tops log i top kept less is before now =
+    let count : length (reverse tops) ≡ length (reverse (take i log)) =
+    sym (length_notes (reverse tops)) ∙ ap (λ (h : List Noted). length h) before
+    ∙ length_topped (notes_of (reverse (take i log))) ∙ length_notes (reverse (take i log)) in
+    ap notes_of (reverse-append tops (top ∷ []))
+    ∙ ap (λ (n : Noted). n ∷ notes_of (reverse tops)) (now (length (reverse tops)))
+    ∙ ap (λ (h : List Noted). topped (note_of (length (reverse tops)) kept) ∷ h) before
+    ∙ ap (λ (n : ℕ). topped (note_of n kept) ∷ map topped (notes_of (reverse (take i log)))) count
+    ∙ ap (λ (ks : List Kept). map topped (notes_of ks)) (reverse_more log i kept less is)
 
 -- ---- one more event
 

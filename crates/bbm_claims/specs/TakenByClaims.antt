@@ -1,6 +1,6 @@
 -- What evidence by claims keeps of the events that it has taken. A history is newest first. Source: project's own choice.
-use Rattle.std.specs.Prelude.{◌≡◌, List, length}
-use Rattle.bbm_rules.specs.Notes.{Noted, events_of}
+use Rattle.std.specs.Prelude.{◌≡◌, List, length, map}
+use Rattle.bbm_rules.specs.Notes.{Noted, events_of, topped}
 use Rattle.bbm_rules.specs.Prelude.{Heading}
 use Rattle.bbm_claims.specs.Cleansings.{Tell}
 use Rattle.bbm_claims.specs.Holdings.{Keep}
@@ -14,3 +14,4 @@ HasTaken evidence heading notes =
     × Keep heading evidence.claims.now (events_of notes) evidence.tags.held.items evidence.tags.left.items
     × AreSpans heading (events_of notes) evidence.tags.spans.items
     × (evidence.taken ≡ length (events_of notes))
+    × Tell heading evidence.claims.now (map topped notes) evidence.above.items

@@ -7,7 +7,7 @@ ghost use Rattle.bbm_rules.specs.Tags.{holds_at as is_held, reads};
 ghost use Rattle.bbm_claims.specs.Holdings.{Keep};
 ghost use Rattle.bbm_claims.specs.Takings.{AreWrites};
 
-use crate::cleansings::{Cleansing, add_completed, cleansed_since, copied};
+use crate::cleansings::{Cleansing, add_above, add_completed, cleansed_since, copied};
 use crate::holdings::{Tags, has, tags_after};
 use crate::known::known;
 use bbm_events::{Claim, Event, Header};
@@ -30,6 +30,8 @@ pub struct ByClaims<'a> {
     tags: Tags,
     /// How many events were taken.
     taken: usize,
+    /// What the claims of places say of top covers that are true of the events taken.
+    above: Vec<Cleansing>,
 }
 
 impl<'a> ByClaims<'a> {
@@ -51,6 +53,7 @@ impl<'a> ByClaims<'a> {
                 spans: Vec::new(alloc),
             },
             taken: 0,
+            above: Vec::new(alloc),
         }
     }
 }
@@ -147,6 +150,11 @@ impl<'a> Evidence for ByClaims<'a> {
         cleansed_since(&self.cleansings, from, place).has_all(header.pe_count())
     }
 
+    fn is_above(&self, header: &Header, _log: &[Kept], from: usize, place: Place) -> bool {
+        known();
+        cleansed_since(&self.above, from, place).has_all(header.pe_count())
+    }
+
     fn after(
         &self,
         alloc: Global,
@@ -156,12 +164,15 @@ impl<'a> Evidence for ByClaims<'a> {
     ) -> Result<ByClaims<'a>, NoMemory> {
         let mut cleansings = copied(alloc, &self.cleansings)?;
         add_completed(header, log, &newest.event, self.claims, &mut cleansings)?;
+        let mut above = copied(alloc, &self.above)?;
+        add_above(alloc, header, log, &newest.event, self.claims, &mut above)?;
         let tags = tags_after(alloc, header, log, &newest.event, &self.tags, self.claims)?;
         Ok(ByClaims {
             claims: self.claims,
             cleansings,
             tags,
             taken: log.len() + 1,
+            above,
         })
     }
 

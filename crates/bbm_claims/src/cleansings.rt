@@ -1,9 +1,11 @@
 //! What is kept of the claims that are true of a log: by the write of a place since which they are.
 
-ghost use Rattle.std.specs.Prelude.{◌≡◌, ◌<◌, ◌&&◌, ◌||◌, ◌==◌, nat_lt, ℕ, length, reverse, get_or, IfSome, IfOk, OnOk};
+ghost use Rattle.std.specs.Prelude.{◌≡◌, ◌<◌, ◌&&◌, ◌||◌, ◌==◌, nat_lt, ℕ, length, map, reverse, get_or, IfSome, IfOk};
+ghost use Rattle.std.specs.Prelude.{OnOk};
 ghost use Rattle.bbm_regimes.specs.PeMask.{pe_in};
 ghost use Rattle.bbm_rules.specs.Lists.{any};
-ghost use Rattle.bbm_oracle_patterns.specs.Kept.{notes_of};
+ghost use Rattle.bbm_rules.specs.Notes.{topped as at_top};
+ghost use Rattle.bbm_oracle_patterns.specs.Kept.{note_of, notes_of};
 ghost use Rattle.bbm_claims.specs.declared.cleansings.Cleansing.{Cleansing as Entry};
 ghost use Rattle.bbm_claims.specs.Cleansings.{ends_now, is_barrier, tells};
 
@@ -131,6 +133,53 @@ pub fn add_completed(
     } else {
         Ok(())
     }
+}
+
+/// The event as if it covered each place as far as its top cover says.
+fn topped(alloc: Global, kept: &Kept) -> Result<Kept, NoMemory>
+    ensures { IfOk result (λ top. (before : ℕ) → note_of before top ≡ at_top (note_of before kept.now)) }
+{
+    let covers = kept.tops.to_vec(alloc)?;
+    let tops = kept.tops.to_vec(alloc)?;
+    Ok(Kept {
+        event: kept.event,
+        covers,
+        tops,
+    })
+}
+
+/// The log as if each event covered each place as far as its top cover says.
+fn all_topped(alloc: Global, log: &[Kept]) -> Result<Vec<Kept>, NoMemory>
+    ensures { IfOk result (λ tops. notes_of (reverse tops.items) ≡ map at_top (notes_of (reverse log.now))) }
+{
+    let mut tops = Vec::new(alloc);
+    for kept in log {
+        let top = topped(alloc, kept)?;
+        tops.push(top)?;
+    }
+    Ok(tops)
+}
+
+/// Keeps what each of the claims says of top covers that ends with this event, which comes behind the log. `NoMemory`
+/// where there is none.
+pub fn add_above(
+    alloc: Global,
+    header: &Header,
+    log: &[Kept],
+    newest: &Event,
+    claims: &[Claim],
+    kept: &mut Vec<Cleansing>,
+) -> Result<(), NoMemory>
+    ensures { OnOk result ((a p n : ℕ) → tells kept.new.items a p n
+        ≡ (tells kept.old.items a p n
+        || any (ends_now header.now newest.now (map at_top (notes_of (reverse log.now))) a p n) claims.now)) }
+{
+    if !is_dsb(newest) {
+        return Ok(());
+    }
+    let tops = all_topped(alloc, log)?;
+    add_claims(header, &tops, newest, claims, kept)?;
+    Ok(())
 }
 
 /// The PEs at which the place is cleansed since a write of it that is among the events from this index on.

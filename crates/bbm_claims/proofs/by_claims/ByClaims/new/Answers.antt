@@ -14,4 +14,6 @@ returns-clause-taken c = λ heading. (
   },
   (λ p n tag below. ap (λ (xs : List Span). lasts xs p tag n) c.new-4.ensures.items ∙ nothing_lasts heading p tag n),
   refl,
+  (λ place p n. ap (λ (xs : List Cleansing). tells xs place p n) c.new-5.ensures.items
+      ∙ tell_nothing heading c.args.claims.now place p n),
 )
