@@ -81,8 +81,8 @@ fn said(history: &History) -> Option<Said> {
         level: Level::ONE,
     };
     Some((
-        held(&AllPatterns, &HEADER, log, Kind::El2, Level::ONE, place),
-        phase_in(&AllPatterns, &HEADER, log, &seat, 0, pe),
+        held(&AllPatterns, &HEADER, log, &seat, false),
+        phase_in(&AllPatterns, &HEADER, log, &seat, false, 0, pe),
         history.phase(place, pe),
         count_restless(history),
     ))

@@ -10,6 +10,7 @@ use Rattle.std.specs.List.{flat_map}
 use Rattle.bbm_tlbi_scope.specs.declared.entry.Cover.TheVariants.{None as NoCover}
 use Rattle.bbm_rules.specs.Prelude.{Kind}
 use Rattle.bbm_rules.specs.Covers.{cover_at, top_at, view_at}
+use Rattle.bbm_rules.specs.Held.{emptied}
 use Rattle.bbm_rules.specs.RegisterValues.{named_scope, vmid_of}
 use Rattle.bbm_rules.specs.Tree.{region_of, tree}
 use Rattle.bbm_tlbi_scope.specs.ScopeCovers.{at_end}
@@ -94,7 +95,8 @@ module _ (kind : Kind) (level q : ℕ) where
       among q (places_in (events_of h) page) ≡ false → held heading trust kind level q h ≡ None
   none_held heading trust h page same none =
       let passes : (page_of q == page) ≡ true = eq-eqb (page_of q) page (sym same) in
-      ap (λ (w : Option ValidWrite). w >>= (λ v. cond (cleansed_everywhere heading trust q v.since) None (Some v.value)))
+      ap (λ (w : Option ValidWrite). w >>= (λ v. cond (emptied heading trust kind level q h
+      || cleansed_everywhere heading trust q v.since) None (Some v.value)))
       (none_valid h (sym (among_filter (λ place. page_of place == page) q (written_places (events_of h)) passes) ∙ none))
 
 -- ---- the list of covers

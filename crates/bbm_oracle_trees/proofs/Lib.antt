@@ -1,4 +1,5 @@
 pub mod Covering
+pub mod Emptying
 pub mod Finds
 pub mod Fitting
 pub mod Linking

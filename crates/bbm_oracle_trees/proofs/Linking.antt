@@ -1,6 +1,7 @@
 -- Which events leave the trees as they are.
 use Rattle.bbm_rules.proofs.Common.{◌≡◌, ℕ, suc, Bool, true, false, not, ◌&&◌, ◌==◌, cond, List, [], ◌∷◌, ◌++◌, filter}
 use Rattle.bbm_rules.proofs.Common.{filter_map, flat_map, find, Option, Some, None, is_none, is_some, true≢false, refl}
+use Rattle.bbm_rules.proofs.Common.{◌||◌, inl, inr, or_cases, or_left, or_right, and_from}
 use Rattle.bbm_rules.proofs.Common.{sym, ◌∙◌, ap, subst, and_parts, eq-eqb, eqb-true, not-true, or_parts}
 use Rattle.bbm_rules.proofs.Common.{list_any-append, cons_option, proved, Is, every_wider, Cover, is_valid, Barrier}
 use Rattle.bbm_rules.proofs.Common.{Heading, Event, Init, Null, Root, Unroot, Write, Dsb, Trust, answered_where}
@@ -9,6 +10,8 @@ use Rattle.bbm_rules.proofs.Common.{held, last_valid, later, ◌>>=◌, among, a
 use Rattle.bbm_rules.proofs.Common.{may_be_fresh, page_of, Declared, roots_of, Node, child_at, children, in_tree}
 use Rattle.bbm_rules.proofs.Common.{next_of, node_below, starts_at, places_in, written_places}
 use Rattle.bbm_lemmas.proofs.Bools.{or_later}
+use Rattle.bbm_rules.specs.Held.{emptied, emptied_in, empties_tables, held_unless, is_empty_above}
+use Rattle.bbm_rules.specs.Prelude.{Kind}
 use Rattle.bbm_rules.specs.Tree.{nodes_at, tree}
 use Rattle.bbm_oracle_trees.specs.Links.{begins_at, is_cut, is_touched, leaves}
 use Rattle.bbm_oracle_trees.proofs.Covering.{none_valid}
@@ -143,19 +146,21 @@ abbrev leads : Node → ℕ → Option ℕ → Option Node
 leads m place holds = holds >>= (λ value. next_of m.kind m.level value >>= (λ next. Some (node_below m place next)))
 
 module _ (heading : Heading) (trust : Trust) (place : ℕ) where
-  abbrev held_by : Option ValidWrite → Option ℕ
-  held_by found = found >>= (λ w. cond (cleansed_everywhere heading trust place w.since) None (Some w.value))
+  -- what it holds where it is emptied, or not
+  abbrev held_by : Bool → Option ValidWrite → Option ℕ
+  held_by gone found =
+      found >>= (λ w. cond (gone || cleansed_everywhere heading trust place w.since) None (Some w.value))
 
   same_cleansed : (e : Event) (covers tops : ℕ → Cover) (k : ℕ) (since : List Noted) → is_dsb e ≡ false
       → cleansed_everywhere heading trust place (noted_as e covers tops k ∷ since) ≡ cleansed_everywhere heading trust place since
   same_cleansed (Dsb pe dsb) covers tops k since other = cc
   same_cleansed e covers tops k since other = refl
 
-  later_held : (e : Event) (covers tops : ℕ → Cover) (k : ℕ) (found : Option ValidWrite) → is_dsb e ≡ false
-      → held_by (later (noted_as e covers tops k) found) ≡ held_by found
-  later_held e covers tops k None other = refl
-  later_held e covers tops k (Some w) other =
-      ap (λ (b : Bool). cond b None (Some w.value)) (same_cleansed e covers tops k w.since other)
+  later_held : (gone : Bool) (e : Event) (covers tops : ℕ → Cover) (k : ℕ) (found : Option ValidWrite)
+      → is_dsb e ≡ false → held_by gone (later (noted_as e covers tops k) found) ≡ held_by gone found
+  later_held gone e covers tops k None other = refl
+  later_held gone e covers tops k (Some w) other =
+      ap (λ (b : Bool). cond (gone || b) None (Some w.value)) (same_cleansed e covers tops k w.since other)
 
   -- what is cleansed stays so
   stays_cleansed : (n : Noted) (since : List Noted) → cleansed_everywhere heading trust place since ≡ true
@@ -192,12 +197,22 @@ any_none (m ∷ ms) = any_none ms
 
 module _ (heading : Heading) (trust : Trust) (h : List Noted) (covers tops : ℕ → Cover) (k : ℕ) where
   -- one that is no write, init or DSB
+  same_emptied : (e : Event) → is_other e ≡ true → (kind : Kind) (level place : ℕ)
+      → emptied heading trust kind level place (noted_as e covers tops k ∷ h) ≡ emptied heading trust kind level place h
+  same_emptied (Init pe page) is = cc
+  same_emptied (Write pe at value) is = cc
+  same_emptied (Dsb pe dsb) is = cc
+  same_emptied e is = λ kind level place. refl
+
   other_step : (e : Event) → is_other e ≡ true → Step heading trust h (noted_as e covers tops k) (λ m. false)
   other_step (Init pe page) is = cc
   other_step (Write pe at value) is = cc
   other_step (Dsb pe dsb) is = cc
   other_step e is = λ m place there ok below.
-      ap (leads m place) (later_held heading trust place e covers tops k (last_valid m.kind m.level place h) refl)
+      ap (λ (gone : Bool). leads m place (held_by heading trust place gone
+      (later (noted_as e covers tops k) (last_valid m.kind m.level place h)))) (same_emptied e is m.kind m.level place)
+      ∙ ap (leads m place) (later_held heading trust place (emptied heading trust m.kind m.level place h) e covers tops k
+      (last_valid m.kind m.level place h) refl)
 
   -- a write
   module _ (pe at value : ℕ) where
@@ -221,22 +236,33 @@ module _ (heading : Heading) (trust : Trust) (h : List Noted) (covers tops : ℕ
         by_next None e = refl
         by_next (Some next) e = cc
 
-    leads_same : (m : Node) (place : ℕ) (here : Bool) (found : Option ValidWrite)
-        → (here ≡ true → (next_of m.kind m.level value ≡ None) × (leads m place (held_by heading trust place found) ≡ None))
-        → leads m place (held_by heading trust place (found_now here found)) ≡ leads m place (held_by heading trust place found)
-    leads_same m place true found nowhere =
-        by_cut (cleansed_everywhere heading trust place []) (nowhere refl).0 ∙ sym (nowhere refl).1
+    -- where the write makes no last valid value
+    still_emptied : (m : Node) (place : ℕ) → (at == place && is_valid m.kind m.level value) ≡ false
+        → emptied heading trust m.kind m.level place (written ∷ h) ≡ emptied heading trust m.kind m.level place h
+    still_emptied m place off =
+        ap (λ (b : Bool). empties_tables heading.version && (not b && emptied_in heading trust 3 m.kind m.level place h)) off
+
+    leads_same : (m : Node) (place : ℕ) (here : Bool) (found : Option ValidWrite) (now before : Bool)
+        → (here ≡ false → now ≡ before)
+        → (here ≡ true → (next_of m.kind m.level value ≡ None)
+        × (leads m place (held_by heading trust place before found) ≡ None))
+        → leads m place (held_by heading trust place now (found_now here found))
+        ≡ leads m place (held_by heading trust place before found)
+    leads_same m place true found now before goes_on nowhere =
+        by_cut (now || cleansed_everywhere heading trust place []) (nowhere refl).0 ∙ sym (nowhere refl).1
       where
         by_cut : (b : Bool) → next_of m.kind m.level value ≡ None → leads m place (cond b None (Some value)) ≡ None
         by_cut true e = refl
         by_cut false e = ap (λ (o : Option ℕ). o >>= (λ next. Some (node_below m place next))) e
-    leads_same m place false found nowhere =
-        ap (leads m place) (later_held heading trust place (Write pe at value) covers tops k found refl)
+    leads_same m place false found now before goes_on nowhere =
+        ap (leads m place) (later_held heading trust place now (Write pe at value) covers tops k found refl
+        ∙ ap (λ (b : Bool). held_by heading trust place b found) (goes_on refl))
 
     write_step : Step heading trust h written (is_touched at value)
     write_step m place there ok below =
         leads_same m place (at == place && is_valid m.kind m.level value) (last_valid m.kind m.level place h)
-        (λ here. let same : at ≡ place = eqb-true at place (and_parts (at == place) (is_valid m.kind m.level value) here).0 in (
+        (emptied heading trust m.kind m.level place (written ∷ h)) (emptied heading trust m.kind m.level place h)
+        (still_emptied m place) (λ here. let same : at ≡ place = eqb-true at place (and_parts (at == place) (is_valid m.kind m.level value) here).0 in (
           no_next m ok (subst (λ (q : ℕ). (page_of q == m.page) ≡ true) (sym same) there),
           nowhere same (child_at heading trust h m place) refl,
         ))
@@ -261,9 +287,11 @@ module _ (heading : Heading) (trust : Trust) (h : List Noted) (covers tops : ℕ
             → child_at heading trust (written ∷ h) m at ≡ None
         nowhere there unknown =
             let before : child_at heading trust h m at ≡ None =
-            ap (λ (o : Option ValidWrite). leads m at (held_by heading trust at o)) (none_valid m.kind m.level at h unknown) in
+            ap (λ (o : Option ValidWrite). leads m at (held_by heading trust at (emptied heading trust m.kind m.level at h) o))
+            (none_valid m.kind m.level at h unknown) in
             leads_same m at (at == at && is_valid m.kind m.level value) (last_valid m.kind m.level at h)
-            (λ here. (no_next m ok there, before))
+            (emptied heading trust m.kind m.level at (written ∷ h)) (emptied heading trust m.kind m.level at h)
+            (still_emptied m at) (λ here. (no_next m ok there, before))
             ∙ before
 
         by_page : (b : Bool) → (page_of at == m.page) ≡ b → among at (written_places (events_of h)) ≡ false
@@ -289,46 +317,70 @@ module _ (heading : Heading) (trust : Trust) (h : List Noted) (covers tops : ℕ
     dsb_step : Step heading trust h answered (is_cut heading trust (answered ∷ h))
     dsb_step m place there ok below = by_write (last_valid m.kind m.level place h) refl
       where
+        before : Bool
+        before = emptied heading trust m.kind m.level place h
+
+        now : Bool
+        now = emptied heading trust m.kind m.level place (answered ∷ h)
+
+        gone_before : ValidWrite → Bool
+        gone_before w = before || cleansed_everywhere heading trust place w.since
+
+        gone_now : ValidWrite → Bool
+        gone_now w = now || cleansed_everywhere heading trust place (answered ∷ w.since)
+
+        stays_emptied : before ≡ true → now ≡ true
+        stays_emptied t =
+            let parts = and_parts (empties_tables heading.version) (emptied_in heading trust 3 m.kind m.level place h) t in
+            and_from (empties_tables heading.version) (emptied_in heading trust 3 m.kind m.level place (answered ∷ h))
+            parts.0 (or_left (emptied_in heading trust 3 m.kind m.level place h) (is_empty_above heading trust
+            (λ under older. is_some (held_unless heading trust (emptied_in heading trust 2 m.kind (suc m.level) under older)
+            m.kind (suc m.level) under older)) m.kind m.level place (answered ∷ h)) parts.1)
+
+        stays_gone : (w : ValidWrite) → gone_before w ≡ true → gone_now w ≡ true
+        stays_gone w t =
+            elim (or_cases before (cleansed_everywhere heading trust place w.since) t) [
+              | inl e ↦ or_left now (cleansed_everywhere heading trust place (answered ∷ w.since)) (stays_emptied e)
+              | inr c ↦ or_right now (cleansed_everywhere heading trust place (answered ∷ w.since))
+                  (stays_cleansed heading trust place answered w.since c)
+            ]
+
         cut : (o : Option ValidWrite) → last_valid m.kind m.level place h ≡ o → (d : Node)
-            → leads m place (held_by heading trust place o) ≡ Some d
-            → held_by heading trust place (later answered o) ≡ None → ⊥
+            → leads m place (held_by heading trust place before o) ≡ Some d
+            → held_by heading trust place now (later answered o) ≡ None → ⊥
         cut o is d leading none =
-            let hangs = leads_to m place (held_by heading trust place o) d leading in
+            let hangs = leads_to m place (held_by heading trust place before o) d leading in
             let child : child_at heading trust h m place ≡ Some d =
-            ap (λ (w : Option ValidWrite). leads m place (held_by heading trust place w)) is ∙ leading in
+            ap (λ (w : Option ValidWrite). leads m place (held_by heading trust place before w)) is ∙ leading in
             let whole : is_cut heading trust (answered ∷ h) d ≡ false = below d child in
             let off : is_cut heading trust (answered ∷ h) d ≡ true =
             ap (is_cut heading trust (answered ∷ h)) hangs.1
-            ∙ ap (λ (w : Option ValidWrite). is_none (held_by heading trust place (later answered w))) is
+            ∙ ap (λ (w : Option ValidWrite). is_none (held_by heading trust place now (later answered w))) is
             ∙ ap (λ (v : Option ℕ). is_none v) none in
             true≢false (sym off ∙ whole)
 
         by_child : (w : ValidWrite) → last_valid m.kind m.level place h ≡ Some w
-            → cleansed_everywhere heading trust place w.since ≡ false
-            → cleansed_everywhere heading trust place (answered ∷ w.since) ≡ true
+            → gone_before w ≡ false → gone_now w ≡ true
             → (x : Option Node) → leads m place (Some w.value) ≡ x → None ≡ x
-        by_child w is before after None leading = refl
-        by_child w is before after (Some d) leading =
+        by_child w is was is_now None leading = refl
+        by_child w is was is_now (Some d) leading =
             absurd (cut (Some w) is d
-            (ap (λ (b : Bool). leads m place (cond b None (Some w.value))) before ∙ leading)
-            (ap (λ (b : Bool). cond b None (Some w.value)) after))
+            (ap (λ (b : Bool). leads m place (cond b None (Some w.value))) was ∙ leading)
+            (ap (λ (b : Bool). cond b None (Some w.value)) is_now))
 
-        by_cleansed : (w : ValidWrite) → last_valid m.kind m.level place h ≡ Some w
-            → (before : Bool) → cleansed_everywhere heading trust place w.since ≡ before
-            → (after : Bool) → cleansed_everywhere heading trust place (answered ∷ w.since) ≡ after
-            → leads m place (cond after None (Some w.value)) ≡ leads m place (cond before None (Some w.value))
-        by_cleansed w is true before true after = refl
-        by_cleansed w is true before false after =
-            absurd (true≢false (sym (stays_cleansed heading trust place answered w.since before) ∙ after))
-        by_cleansed w is false before true after = by_child w is before after (leads m place (Some w.value)) refl
-        by_cleansed w is false before false after = refl
+        by_gone : (w : ValidWrite) → last_valid m.kind m.level place h ≡ Some w
+            → (b : Bool) → gone_before w ≡ b → (a : Bool) → gone_now w ≡ a
+            → leads m place (cond a None (Some w.value)) ≡ leads m place (cond b None (Some w.value))
+        by_gone w is true was true is_now = refl
+        by_gone w is true was false is_now = absurd (true≢false (sym (stays_gone w was) ∙ is_now))
+        by_gone w is false was true is_now = by_child w is was is_now (leads m place (Some w.value)) refl
+        by_gone w is false was false is_now = refl
 
         by_write : (o : Option ValidWrite) → last_valid m.kind m.level place h ≡ o
-            → leads m place (held_by heading trust place (later answered o)) ≡ leads m place (held_by heading trust place o)
+            → leads m place (held_by heading trust place now (later answered o))
+            ≡ leads m place (held_by heading trust place before o)
         by_write None is = refl
-        by_write (Some w) is =
-            by_cleansed w is (cleansed_everywhere heading trust place w.since) refl
-            (cleansed_everywhere heading trust place (answered ∷ w.since)) refl
+        by_write (Some w) is = by_gone w is (gone_before w) refl (gone_now w) refl
 
   by_event : (e : Event) → leaves heading trust (noted_as e covers tops k ∷ h) (tree heading trust h) e ≡ true
       → tree heading trust (noted_as e covers tops k ∷ h) ≡ tree heading trust h

@@ -1,5 +1,6 @@
 pub mod ByPatterns
 pub mod HistoryFits
+pub mod Emptied
 pub mod Links
 pub mod MappedIn
 pub mod Past

@@ -3,6 +3,7 @@
 
 mod clean;
 mod covers;
+mod emptied;
 mod fresh;
 mod history;
 mod limbo;
@@ -10,6 +11,7 @@ mod links;
 mod log;
 mod node;
 mod starts;
+mod taken;
 mod tree;
 mod trees;
 

@@ -1,6 +1,6 @@
 use Rattle.bbm_rules.proofs.Common.{reverse}
 use Rattle.bbm_oracle_trees.proofs.Fitting.{found_fit}
-use Rattle.bbm_oracle_trees.proofs.log.Log.roots.Goals as goal
+use Rattle.bbm_oracle_trees.proofs.taken.Taken.roots.Goals as goal
 
 pub returns-clause-fit : goal.returns-clause-fit
 returns-clause-fit g c =
