@@ -4,11 +4,11 @@ use Rattle.bbm_rules.proofs.Common.{sym, ap, ◌∙◌, subst, arith, if◌then�
 use Rattle.bbm_rules.proofs.Common.{Kind, meets, Form, core_of, desc_of, form_of, is_valid, needs, contiguous_of}
 use Rattle.bbm_rules.proofs.Common.{vmid_matches, VmAll1, of_world, scoped_by_vmid, scope_of, Half, Second, Full}
 use Rattle.bbm_rules.proofs.Common.{Vae2is, Ipas2e1is, Barrier, Event, TlbiOp, Scope, Write, Dsb, Dmb, Isb, Tlbi}
-use Rattle.bbm_rules.specs.Covers.{top_at}
 use Rattle.bbm_rules.proofs.Common.{VttbrEl2, cover_at, note, ValidWrite, cleansed_everywhere, held, last_valid, Noted}
 use Rattle.bbm_rules.proofs.Common.{events_of, page_of, vmid_of, lacks_vmid, tag_number, is_fresh, is_null, lock_of}
 use Rattle.bbm_rules.proofs.Common.{roots_of, is_contiguous, tag_set, tags_of, held_at, next_of, node_of, region_of}
 use Rattle.bbm_rules.proofs.Common.{and-false}
+use Rattle.bbm_rules.specs.Covers.{top_at}
 use Rattle.bbm_regimes.specs.declared.regime.Kind.TheVariants.{El2, S2}
 use Rattle.bbm_tlbi_scope.specs.Decode.{one_page}
 use Rattle.bbm_tlbi_scope.specs.declared.op.TlbiOp.TheVariants.{Vmalle1is}
