@@ -2,7 +2,7 @@
 use Rattle.bbm_rules.proofs.Common.{◌≡◌, ℕ, ◌<◌, Bool, true, false, cond, List, Option, Some, None, is_some}
 use Rattle.bbm_rules.proofs.Common.{option_and_then, refl, sym, ◌∙◌, ap, is_valid, Patterns, noted, ValidWrite}
 use Rattle.bbm_rules.proofs.Common.{cleansed_everywhere, last_valid, Noted, broken_phase, is_restless, page_of, Node}
-use Rattle.bbm_rules.proofs.Common.{node_of, value_of, arith}
+use Rattle.bbm_rules.proofs.Common.{node_of, value_of, arith, ◌||◌}
 use Rattle.std.specs.Prelude.{unwrap_or}
 use Rattle.bbm_entry_state.specs.Points.{core_in, is_broken}
 use Rattle.bbm_entry_state.specs.declared.pending.Pends.{Pends}
@@ -12,7 +12,6 @@ use Rattle.bbm_events.specs.declared.event.Event.{Event}
 use Rattle.bbm_rules.specs.declared.phase.Phase.{Phase}
 use Rattle.bbm_rules.specs.declared.phase.Phase.TheVariants.{Clean, Live}
 use Rattle.bbm_rules.specs.Held.{emptied}
-use Rattle.bbm_rules.proofs.Common.{◌||◌}
 use Rattle.bbm_rules.specs.Phases.{phase_of}
 use Rattle.bbm_replay_entries.specs.KnownOfEntries.{Known}
 use Rattle.bbm_replay_entries.specs.Marked.{Marked}

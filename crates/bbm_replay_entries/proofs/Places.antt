@@ -4,8 +4,8 @@ use Rattle.bbm_rules.proofs.Common.{Some, None, is_some, is_none, option_and_the
 use Rattle.bbm_rules.proofs.Common.{true≢false, and_parts, eq-eqb, eqb-true, false_from_ne_true, answers, core_of}
 use Rattle.bbm_rules.proofs.Common.{is_valid, Core, every_pe, every_same, every_wider, Kind, Cover, Patterns, cleansed}
 use Rattle.bbm_rules.proofs.Common.{writes, note, noted, ValidWrite, cleansed_everywhere, held, last_valid}
-use Rattle.bbm_rules.proofs.Common.{last_valid_after, later, Noted, events_of, value_of, arith}
-use Rattle.bbm_rules.proofs.Common.{◌||◌, or_right, or-false, page_of}
+use Rattle.bbm_rules.proofs.Common.{last_valid_after, later, Noted, events_of, value_of, arith, ◌||◌, or_left, or_right}
+use Rattle.bbm_rules.proofs.Common.{page_of}
 use Rattle.bbm_rules.specs.Held.{emptied}
 use Rattle.std.proofs.Math.Bool.{and-false, and-true}
 use Rattle.bbm_barriers.specs.declared.Dsb.{Dsb as Barrier}
