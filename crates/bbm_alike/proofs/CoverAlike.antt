@@ -1,12 +1,12 @@
 -- In histories that are alike, a TLBI covers each place as far.
-use Rattle.bbm_rules.proofs.Common.{◌≡◌, ℕ, suc, Bool, List, Option, Some, None, is_some, option_and_then}
-use Rattle.bbm_rules.proofs.Common.{unwrap_or, Contains, refl, sym, ◌∙◌, ap, desc_of, cover_of, Cover, PlaceView}
-use Rattle.bbm_rules.proofs.Common.{TagSet, Heading, Event, Tlbi, TlbiOp, Scope, Trust, cover_at, is_global, noted}
-use Rattle.bbm_rules.proofs.Common.{view_at, held, Noted, events_of, page_of, named_scope, vmid_of}
-use Rattle.bbm_rules.proofs.Common.{tag_set, tags_of, Node, held_at, is_childless, next_of}
-use Rattle.bbm_rules.proofs.Common.{node_below, node_of, region_of, same_truth}
+use Rattle.bbm_rules.proofs.Common.{◌≡◌, ℕ, suc, Bool, List, Option, Some, None, is_some, option_and_then, unwrap_or}
+use Rattle.bbm_rules.proofs.Common.{Contains, refl, sym, ◌∙◌, ap, desc_of, cover_of, Cover, PlaceView, TagSet, Heading}
+use Rattle.bbm_rules.proofs.Common.{Event, Tlbi, TlbiOp, Scope, Trust, cover_at, is_global, noted, view_at, held, Noted}
+use Rattle.bbm_rules.proofs.Common.{events_of, page_of, named_scope, vmid_of, tag_set, tags_of, Node, held_at}
+use Rattle.bbm_rules.proofs.Common.{is_childless, next_of, node_below, node_of, region_of, same_truth}
 use Rattle.bbm_tlbi_scope.specs.declared.entry.Cover.TheVariants.{None as NoCover}
-use Rattle.bbm_rules.specs.Covers.{at_end, top_at}
+use Rattle.bbm_tlbi_scope.specs.ScopeCovers.{at_end}
+use Rattle.bbm_rules.specs.Covers.{top_at}
 use Rattle.bbm_rules.specs.Tree.{tree}
 use Rattle.bbm_alike.specs.Alike.{Alike}
 use Rattle.bbm_alike.specs.KnownOfHistories.{Known}
@@ -89,38 +89,28 @@ module _ (heading : Heading) (k : Known heading) (one other : Trust) (h h' : Lis
 
   -- ---- how far a TLBI covers a place
 
-  abbrev cover_by : Option Scope → Option ℕ → Option PlaceView → Cover
-  cover_by scope vmid view = unwrap_or (option_and_then (λ s. option_and_then (λ v. Some (cover_of s vmid v)) view) scope) NoCover
+  -- a place is seen so by the TLBI
+  module _ (seen_so : PlaceView → PlaceView) (pe : ℕ) (op : TlbiOp) (xt place : ℕ) where
+    abbrev cover_by : Option Scope → Option ℕ → Option PlaceView → Cover
+    cover_by scope vmid view =
+        unwrap_or (option_and_then (λ s. option_and_then (λ v. Some (cover_of s vmid (seen_so v))) view) scope) NoCover
 
-  module _ (pe : ℕ) (op : TlbiOp) (xt : ℕ) (place : ℕ) where
-    scope : named_scope heading (events_of marks) pe op xt ≡ named_scope heading (events_of marks') pe op xt
-    scope = scope_alike (events_of marks) (events_of marks') notes.registers heading pe op xt
+    abbrev cover_in : Trust → List Noted → Cover
+    cover_in t x = cover_by (named_scope heading (events_of x) pe op xt) (vmid_of heading (events_of x) pe) (view_at heading t x place)
 
-    vmid : vmid_of heading (events_of marks) pe ≡ vmid_of heading (events_of marks') pe
-    vmid = vmid_alike (events_of marks) (events_of marks') notes.registers heading pe
-
-    by_alike : (view view' : Option PlaceView) → view ≡ view'
-        → cover_by (named_scope heading (events_of marks) pe op xt) (vmid_of heading (events_of marks) pe) view
-        ≡ cover_by (named_scope heading (events_of marks') pe op xt) (vmid_of heading (events_of marks') pe) view'
-    by_alike view view' same =
-        ap (λ (o : Option Scope). cover_by o (vmid_of heading (events_of marks) pe) view) scope
-        ∙ (ap (λ (o : Option ℕ). cover_by (named_scope heading (events_of marks') pe op xt) o view) vmid
+    same_cover : cover_in one marks ≡ cover_in other marks'
+    same_cover =
+        ap (λ (o : Option Scope). cover_by o (vmid_of heading (events_of marks) pe) (view_at heading one marks place))
+        (scope_alike (events_of marks) (events_of marks') notes.registers heading pe op xt)
+        ∙ (ap (λ (o : Option ℕ). cover_by (named_scope heading (events_of marks') pe op xt) o (view_at heading one marks place))
+        (vmid_alike (events_of marks) (events_of marks') notes.registers heading pe)
         ∙ ap (λ (o : Option PlaceView). cover_by (named_scope heading (events_of marks') pe op xt) (vmid_of heading (events_of marks') pe) o)
-        same)
+        (view_alike place))
 
   pub cover_alike : (e : Event) (place : ℕ) → cover_at heading one marks e place ≡ cover_at heading other marks' e place
-  cover_alike (Tlbi pe op xt) place =
-      by_alike pe op xt place (view_at heading one marks place) (view_at heading other marks' place) (view_alike place)
+  cover_alike (Tlbi pe op xt) place = same_cover (λ v. v) pe op xt place
   cover_alike e place = refl
 
-  -- so it is with the top covers
-  abbrev top_by : Option Scope → Option ℕ → Option PlaceView → Cover
-  top_by scope vmid view = unwrap_or (option_and_then (λ s. option_and_then (λ v. Some (cover_of s vmid (at_end v))) view) scope) NoCover
-
   pub top_alike : (e : Event) (place : ℕ) → top_at heading one marks e place ≡ top_at heading other marks' e place
-  top_alike (Tlbi pe op xt) place =
-      ap (λ (o : Option Scope). top_by o (vmid_of heading (events_of marks) pe) (view_at heading one marks place)) (scope pe op xt place)
-      ∙ (ap (λ (o : Option ℕ). top_by (named_scope heading (events_of marks') pe op xt) o (view_at heading one marks place)) (vmid pe op xt place)
-      ∙ ap (λ (o : Option PlaceView). top_by (named_scope heading (events_of marks') pe op xt) (vmid_of heading (events_of marks') pe) o)
-      (view_alike place))
+  top_alike (Tlbi pe op xt) place = same_cover at_end pe op xt place
   top_alike e place = refl

@@ -1,12 +1,12 @@
 -- What a place of a tree holds after an event, and its patterns, in histories that are alike: where its page was in a
 -- tree before and is so still.
-use Rattle.bbm_rules.proofs.Common.{◌≡◌, ℕ, zero, suc, ◌+◌, ◌<◌, ◌≤◌, ◌&&◌, ◌||◌, Bool, true, false, cond, ◌==◌, List, []}
-use Rattle.bbm_rules.proofs.Common.{◌∷◌, ◌++◌, map, Option, Some, None, is_some, option_and_then, Contains, refl, sym, ◌∙◌}
-use Rattle.bbm_rules.proofs.Common.{ap, subst, inl, inr, arith, true≢false, or_left, or_right, same_truth, every_same}
-use Rattle.bbm_rules.proofs.Common.{every_wider, is_valid, Barrier, Heading, Event, Init, Write, Dsb, Trust, keeps}
-use Rattle.bbm_rules.proofs.Common.{cleansed, cover_at, note, noted, ValidWrite, cleansed_everywhere, held, last_valid}
-use Rattle.bbm_rules.proofs.Common.{last_valid_after, later, Noted, page_of, Above, Node, held_at, next_of, node_below}
-use Rattle.bbm_rules.proofs.Common.{contains_cases}
+use Rattle.bbm_rules.proofs.Common.{◌≡◌, ℕ, zero, suc, ◌+◌, ◌<◌, ◌≤◌, ◌&&◌, ◌||◌, Bool, true, false, cond, ◌==◌, List}
+use Rattle.bbm_rules.proofs.Common.{[], ◌∷◌, ◌++◌, map, Option, Some, None, is_some, option_and_then, Contains, refl}
+use Rattle.bbm_rules.proofs.Common.{sym, ◌∙◌, ap, subst, inl, inr, arith, true≢false, or_left, or_right, same_truth}
+use Rattle.bbm_rules.proofs.Common.{every_same, every_wider, is_valid, Barrier, Heading, Event, Init, Write, Dsb, Trust}
+use Rattle.bbm_rules.proofs.Common.{keeps, cleansed, cover_at, note, noted, ValidWrite, cleansed_everywhere, held}
+use Rattle.bbm_rules.proofs.Common.{last_valid, last_valid_after, later, Noted, page_of, Above, Node, held_at, next_of}
+use Rattle.bbm_rules.proofs.Common.{node_below, contains_cases}
 use Rattle.bbm_rules.proofs.TreeLaw.{table_level}
 use Rattle.bbm_rules.specs.Cleansing.{above}
 use Rattle.bbm_rules.specs.Covers.{top_at}

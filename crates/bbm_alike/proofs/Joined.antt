@@ -1,14 +1,13 @@
 -- The relation holds of the start by any two trusts, of a history and itself, both ways, and through a third.
 use Rattle.bbm_rules.proofs.Common.{[], true≢false, ◌≡◌, ℕ, true, false, List, Option, Some, None, is_some, Contains}
 use Rattle.bbm_rules.proofs.Common.{refl, sym, ◌∙◌, ap, subst, Heading, Event, Trust, noted, ValidWrite, last_valid}
-use Rattle.bbm_rules.proofs.Common.{Noted, page_of, Node, held_at}
-use Rattle.bbm_rules.proofs.Common.{map}
+use Rattle.bbm_rules.proofs.Common.{Noted, page_of, Node, held_at, map, Bool, Tag, ◌||◌, ◌<◌, holds_at, kept_at}
+use Rattle.bbm_rules.proofs.Common.{left_at}
 use Rattle.bbm_rules.specs.Held.{emptied, empties_tables}
 use Rattle.bbm_rules.specs.Notes.{topped}
 use Rattle.bbm_rules.specs.Tree.{tree}
 use Rattle.bbm_alike.specs.Alike.{Alike, SamePatterns}
 use Rattle.bbm_alike.proofs.HeldStep.{last_of}
-use Rattle.bbm_rules.proofs.Common.{Bool, Tag, ◌||◌, ◌<◌, holds_at, kept_at, left_at}
 use Rattle.bbm_rules.proofs.TagEndsLaw.{kept_parts}
 
 module _ (heading : Heading) where

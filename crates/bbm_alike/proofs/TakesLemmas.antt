@@ -2,8 +2,7 @@
 -- the event is no DSB.
 use Rattle.bbm_rules.proofs.Common.{◌≡◌, ℕ, ◌<◌, ◌&&◌, ◌||◌, not, Bool, true, false, List, ◌∷◌, refl, sym, ◌∙◌, ap}
 use Rattle.bbm_rules.proofs.Common.{or_right, Barrier, Heading, Event, Dsb, Tag, Trust, Patterns, cleansed, note, noted}
-use Rattle.bbm_rules.proofs.Common.{Noted, kept_at, loses, reads_for_some}
-use Rattle.bbm_rules.proofs.Common.{map}
+use Rattle.bbm_rules.proofs.Common.{Noted, kept_at, loses, reads_for_some, map}
 use Rattle.bbm_rules.specs.Notes.{topped}
 use Rattle.bbm_histories.specs.ClaimSteps.{cleansed_under}
 use Rattle.bbm_histories.specs.HistorySteps.{answered_by, cleansed_after, full_waits, second_waits, tag_waits}

@@ -1,10 +1,9 @@
 -- The trees after an event, which pages are fresh, and what places hold, in histories that are alike.
-use Rattle.bbm_rules.proofs.Common.{◌≡◌, ℕ, ◌<◌, ◌&&◌, ◌||◌, not, Bool, true, false, cond, List, [], ◌∷◌, Option, Some, None}
-use Rattle.bbm_rules.proofs.Common.{is_some, find, Contains, ◌++◌, ◌==◌, refl, sym, ◌∙◌, ap, inl, inr, is_valid}
+use Rattle.bbm_rules.proofs.Common.{◌≡◌, ℕ, ◌<◌, ◌&&◌, ◌||◌, not, Bool, true, false, cond, List, [], ◌∷◌, Option, Some}
+use Rattle.bbm_rules.proofs.Common.{None, is_some, find, Contains, ◌++◌, ◌==◌, refl, sym, ◌∙◌, ap, inl, inr, is_valid}
 use Rattle.bbm_rules.proofs.Common.{Heading, Event, Root, Write, keeps, Trust, noted, ValidWrite, last_valid, Noted}
 use Rattle.bbm_rules.proofs.Common.{events_of, is_fresh, may_be_fresh, page_of, roots_of, Node, held_at, in_tree}
-use Rattle.bbm_rules.proofs.Common.{next_of, node_below, value_of, written_places}
-use Rattle.bbm_rules.proofs.Common.{map}
+use Rattle.bbm_rules.proofs.Common.{next_of, node_below, value_of, written_places, map}
 use Rattle.bbm_rules.proofs.Emptied.{seen_topped, wrote_topped}
 use Rattle.bbm_rules.specs.Held.{empties_tables}
 use Rattle.bbm_rules.specs.Notes.{topped}
