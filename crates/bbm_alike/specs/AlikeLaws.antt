@@ -4,7 +4,7 @@ use Rattle.bbm_rules.specs.Prelude.{Barrier, Dmb, Dsb, Event, Heading, Isb, Reg,
 use Rattle.bbm_rules.specs.Broken.{broken, keeps}
 use Rattle.bbm_rules.specs.Claims.{Trust}
 use Rattle.bbm_rules.specs.Claims.Trust.{Patterns}
-use Rattle.bbm_rules.specs.Covers.{cover_at, noted}
+use Rattle.bbm_rules.specs.Covers.{cover_at, noted, top_at}
 use Rattle.bbm_rules.specs.Notes.{Noted, events_of}
 use Rattle.bbm_rules.specs.Phases.{phase_of, restless_of}
 use Rattle.bbm_rules.specs.Places.{page_of}
@@ -52,10 +52,13 @@ pub record JudgedAlike (heading : Heading) (one other : Trust) : Type 0 where
   pub restless : (h h' : List Event) → Alike heading one other h h'
       → restless_of heading one h ≡ restless_of heading other h'
 
--- After histories that are alike, each read by its trust, every event covers each place alike.
-abbrev pub CoversAlike : Heading → Trust → Trust → Type 0
-CoversAlike heading one other = (h h' : List Event) (e : Event) (place : ℕ) → Alike heading one other h h'
-    → cover_at heading one (noted heading one h) e place ≡ cover_at heading other (noted heading other h') e place
+-- After histories that are alike, each read by its trust, every event has the same cover and the same top cover of each
+-- place.
+pub record CoversAlike (heading : Heading) (one other : Trust) : Type 0 where
+  pub covers : (h h' : List Event) (e : Event) (place : ℕ) → Alike heading one other h h'
+      → cover_at heading one (noted heading one h) e place ≡ cover_at heading other (noted heading other h') e place
+  pub tops : (h h' : List Event) (e : Event) (place : ℕ) → Alike heading one other h h'
+      → top_at heading one (noted heading one h) e place ≡ top_at heading other (noted heading other h') e place
 
 -- Two annotated histories with the same roots and the same written places, in which each place of a tree holds the
 -- same, have the same trees, each read by its trust.
