@@ -3,7 +3,7 @@
 use Rattle.bbm_rules.proofs.Common.{◌≡◌, ℕ, zero, suc, ◌+◌, ◌<◌, ◌≤◌, ◌&&◌, ◌||◌, Bool, true, false, cond, ◌==◌, List}
 use Rattle.bbm_rules.proofs.Common.{[], ◌∷◌, ◌++◌, map, Option, Some, None, is_some, option_and_then, Contains, refl}
 use Rattle.bbm_rules.proofs.Common.{sym, ◌∙◌, ap, subst, inl, inr, arith, true≢false, or_left, or_right, same_truth}
-use Rattle.bbm_rules.proofs.Common.{every_same, every_wider, is_valid, Barrier, Heading, Event, Init, Write, Dsb, Trust}
+use Rattle.bbm_rules.proofs.Common.{every_same, every_wider, Kind, is_valid, Barrier, Heading, Event, Init, Write, Dsb, Trust}
 use Rattle.bbm_rules.proofs.Common.{keeps, cleansed, cover_at, note, noted, ValidWrite, cleansed_everywhere, held}
 use Rattle.bbm_rules.proofs.Common.{last_valid, last_valid_after, later, Noted, page_of, Above, Node, held_at, next_of}
 use Rattle.bbm_rules.proofs.Common.{node_below, contains_cases}
@@ -87,6 +87,81 @@ still_cleansed heading k trust place p n since other =
     by (Dsb q dsb) other = absurd (other q dsb refl)
     by e other = refl
 
+-- ---- a DSB, in one history
+
+module _ (heading : Heading) (k : Known heading) (trust : Trust) (kind : Kind) (level place : ℕ) (y : Noted) (ys : List Noted)
+    (q : ℕ) (dsb : Barrier) (is_dsb : y.event ≡ Dsb q dsb) where
+  held_then : 0 < heading.pes → held heading trust kind level place (y ∷ ys)
+      ≡ kept heading trust (emptied heading trust kind level place (y ∷ ys)) place (λ w. y ∷ w.since) (last_valid kind level place ys)
+  held_then pes = k.held_step trust kind level place y ys pes
+      ∙ ap (λ (f : Event). held_after heading trust kind level place f y ys) is_dsb
+
+  last_then : (w : ValidWrite) → last_valid kind level place ys ≡ Some w
+      → last_valid kind level place (y ∷ ys) ≡ Some (record { value = w.value; since = y ∷ w.since })
+  last_then w is = ap (λ (f : Event). last_valid_after kind level place f y (last_valid kind level place ys)) is_dsb
+      ∙ ap (λ (o : Option ValidWrite). later y o) is
+
+  still_emptied : emptied heading trust kind level place ys ≡ true → emptied heading trust kind level place (y ∷ ys) ≡ true
+  still_emptied gone = (k.held trust).emptied_stays kind level place y ys
+      (λ p v is. let apart : Dsb q dsb ≡ Write p place v = sym is_dsb ∙ is in cc)
+      (λ p is. let apart : Dsb q dsb ≡ Init p (page_of place) = sym is_dsb ∙ is in cc) gone
+
+  -- a place that held something comes to be emptied where it is empty and above
+  now_empty : (value : ℕ) → held heading trust kind level place ys ≡ Some value
+      → emptied heading trust kind level place (y ∷ ys) ≡ true → EmptyAbove heading trust kind level place (y ∷ ys)
+  now_empty value holds gone =
+      elim ((k.held trust).emptied_step kind level place y ys gone) [
+        | inl before ↦ absurd (true≢false (sym before ∙ ((k.held trust).sound kind level place ys value holds).unemptied))
+        | inr now ↦ now.3
+      ]
+
+  now_emptied : empties_tables heading.version ≡ true → EmptyAbove heading trust kind level place (y ∷ ys)
+      → emptied heading trust kind level place (y ∷ ys) ≡ true
+  now_emptied late empty =
+      (k.held trust).emptied_complete kind level place (y ∷ ys) (record {
+        version = late;
+        q = q;
+        dsb = dsb;
+        newer = [];
+        barrier = y;
+        older = ys;
+        split = refl;
+        is_barrier = is_dsb;
+        empty = empty;
+        last = λ r v m after before s. absurd (nothing m after before s);
+        no_init = λ r m after before s. absurd (nothing m after before s);
+      })
+    where
+      nothing : (m : Noted) (after before : List Noted) → [] ≡ after ++ m ∷ before → ⊥
+      nothing m [] before s = cc
+      nothing m (z ∷ after) before s = cc
+
+-- ---- a DSB, in two histories
+
+-- What is empty and above in one history is so in another, where the last valid value is the same, the place is above at
+-- the same PEs, and the places below hold the same.
+empty_alike : (heading : Heading) (k : Known heading) (one other : Trust) (kind : Kind) (level place : ℕ) (z z' : List Noted)
+    (u u' : ValidWrite) → last_valid kind level place z ≡ Some u → last_valid kind level place z' ≡ Some u' → u.value ≡ u'.value
+    → ((p : ℕ) → p < heading.pes → above heading one place p u.since ≡ above heading other place p u'.since)
+    → ((next : ℕ) → next_of kind level u.value ≡ Some next → (below : ℕ) → page_of below ≡ next
+    → held heading one kind (suc level) below z ≡ held heading other kind (suc level) below z')
+    → EmptyAbove heading one kind level place z → EmptyAbove heading other kind level place z'
+empty_alike heading k one other kind level place z z' u u' last last' same aboves belows empty =
+    let both : Some empty.w ≡ Some u = sym empty.is_last ∙ last in
+    let is : empty.w ≡ u = cc in
+    let table : next_of kind level u.value ≡ Some empty.next
+    = ap (λ (v : ValidWrite). next_of kind level v.value) (sym is) ∙ empty.table in
+    record {
+      w = u';
+      is_last = last';
+      next = empty.next;
+      table = ap (next_of kind level) (sym same) ∙ table;
+      above = λ p below. (k.cleansed other).sound place p (map topped u'.since) (sym (aboves p below)
+          ∙ (k.cleansed one).complete place p (map topped u.since)
+          (subst (λ (v : ValidWrite). IsAbove heading one place p v.since) is (empty.above p below)));
+      holds_none = λ below under. sym (belows empty.next table below under) ∙ empty.holds_none below under;
+    }
+
 module _ (heading : Heading) (k : Known heading) (one other : Trust) (h h' : List Event) (pes : 0 < heading.pes)
     (a : Alike heading one other h h') where
   abbrev marks : List Noted
@@ -105,30 +180,6 @@ module _ (heading : Heading) (k : Known heading) (one other : Trust) (h h' : Lis
     -- ---- a DSB
 
     module _ (q : ℕ) (dsb : Barrier) (is_dsb : e ≡ Dsb q dsb) where
-      after_one : (n : Node) (place : ℕ) → held_at heading one (x ∷ marks) n place
-          ≡ kept heading one (emptied heading one n.kind n.level place (x ∷ marks)) place (λ w. x ∷ w.since) (last_valid n.kind n.level place marks)
-      after_one n place =
-          k.held_step one n.kind n.level place x marks pes
-          ∙ ap (λ (f : Event). held_after heading one n.kind n.level place f x marks) is_dsb
-
-      after_other : (n : Node) (place : ℕ) → held_at heading other (x' ∷ marks') n place
-          ≡ kept heading other (emptied heading other n.kind n.level place (x' ∷ marks')) place (λ w. x' ∷ w.since) (last_valid n.kind n.level place marks')
-      after_other n place =
-          k.held_step other n.kind n.level place x' marks' pes
-          ∙ ap (λ (f : Event). held_after heading other n.kind n.level place f x' marks') is_dsb
-
-      stays_one : (n : Node) (place : ℕ) → emptied heading one n.kind n.level place marks ≡ true
-          → emptied heading one n.kind n.level place (x ∷ marks) ≡ true
-      stays_one n place gone = (k.held one).emptied_stays n.kind n.level place x marks
-          (λ p v is. let apart : Dsb q dsb ≡ Write p place v = sym is_dsb ∙ is in cc)
-          (λ p is. let apart : Dsb q dsb ≡ Init p (page_of place) = sym is_dsb ∙ is in cc) gone
-
-      stays_other : (n : Node) (place : ℕ) → emptied heading other n.kind n.level place marks' ≡ true
-          → emptied heading other n.kind n.level place (x' ∷ marks') ≡ true
-      stays_other n place gone = (k.held other).emptied_stays n.kind n.level place x' marks'
-          (λ p v is. let apart : Dsb q dsb ≡ Write p place v = sym is_dsb ∙ is in cc)
-          (λ p is. let apart : Dsb q dsb ≡ Init p (page_of place) = sym is_dsb ∙ is in cc) gone
-
       -- the places of the node's page, where none above is swept
       module _ (n : Node) (place : ℕ) (there : Contains (tree heading one marks) n) (free : Unswept heading one h e n)
           (inside : page_of place ≡ n.page) where
@@ -148,53 +199,16 @@ module _ (heading : Heading) (k : Known heading) (one other : Trust) (h h' : Lis
               (λ p. cleansed heading other place p (x' ∷ w'.since))
               (λ p below. t.cleanses n place p w w' there free inside (ap is_some holds) last last' below)
 
-          last_one : last_valid n.kind n.level place (x ∷ marks) ≡ Some (record { value = w.value; since = x ∷ w.since })
-          last_one =
-              ap (λ (f : Event). last_valid_after n.kind n.level place f x (last_valid n.kind n.level place marks)) is_dsb
-              ∙ ap (λ (o : Option ValidWrite). later x o) last
+          -- the last valid write after the DSB
+          abbrev now : ValidWrite
+          now = record { value = w.value; since = x ∷ w.since }
 
-          last_other : last_valid n.kind n.level place (x' ∷ marks') ≡ Some (record { value = w'.value; since = x' ∷ w'.since })
-          last_other =
-              ap (λ (f : Event). last_valid_after n.kind n.level place f x' (last_valid n.kind n.level place marks')) is_dsb
-              ∙ ap (λ (o : Option ValidWrite). later x' o) last'
-
-          holds_other : held_at heading other marks' n place ≡ Some value
-          holds_other = sym (a.held n place there inside) ∙ holds
+          abbrev now' : ValidWrite
+          now' = record { value = w'.value; since = x' ∷ w'.since }
 
           above_same : empties_tables heading.version ≡ true → (p : ℕ) → p < heading.pes
               → above heading one place p (x ∷ w.since) ≡ above heading other place p (x' ∷ w'.since)
           above_same late p below = t.tops late n place p w w' there free inside (ap is_some holds) last last' below
-
-          -- by a DSB a place that held something comes to be emptied
-          now_empty : (trust : Trust) (y : Noted) (ys : List Noted) → held heading trust n.kind n.level place ys ≡ Some value
-              → emptied heading trust n.kind n.level place (y ∷ ys) ≡ true
-              → EmptyAbove heading trust n.kind n.level place (y ∷ ys)
-          now_empty trust y ys some gone =
-              elim ((k.held trust).emptied_step n.kind n.level place y ys gone) [
-                | inl before ↦ absurd (true≢false (sym before ∙ ((k.held trust).sound n.kind n.level place ys value some).unemptied))
-                | inr now ↦ now.3
-              ]
-
-          by_dsb : (trust : Trust) (y : Noted) (ys : List Noted) → y.event ≡ Dsb q dsb → empties_tables heading.version ≡ true
-              → EmptyAbove heading trust n.kind n.level place (y ∷ ys) → emptied heading trust n.kind n.level place (y ∷ ys) ≡ true
-          by_dsb trust y ys is late empty =
-              (k.held trust).emptied_complete n.kind n.level place (y ∷ ys) (record {
-                version = late;
-                q = q;
-                dsb = dsb;
-                newer = [];
-                barrier = y;
-                older = ys;
-                split = refl;
-                is_barrier = is;
-                empty = empty;
-                last = λ r v m after before s. absurd (nothing m after before s);
-                no_init = λ r m after before s. absurd (nothing m after before s);
-              })
-            where
-              nothing : (m : Noted) (after before : List Noted) → [] ≡ after ++ m ∷ before → ⊥
-              nothing m [] before s = cc
-              nothing m (z ∷ after) before s = cc
 
           module _ (kept_on : cleansed_everywhere heading one place (x ∷ w.since) ≡ false) where
             below_same : (next : ℕ) → next_of n.kind n.level w.value ≡ Some next → (below : ℕ) → page_of below ≡ next
@@ -204,41 +218,22 @@ module _ (heading : Heading) (k : Known heading) (one other : Trust) (h h' : Lis
             to_other : emptied heading one n.kind n.level place (x ∷ marks) ≡ true → emptied heading other n.kind n.level place (x' ∷ marks') ≡ true
             to_other gone =
                 let late : empties_tables heading.version ≡ true = ((k.held one).emptied_sound n.kind n.level place (x ∷ marks) gone).version in
-                let empty : EmptyAbove heading one n.kind n.level place (x ∷ marks) = now_empty one x marks holds gone in
-                let both : Some empty.w ≡ Some (record { value = w.value; since = x ∷ w.since }) = sym empty.is_last ∙ last_one in
-                let is : empty.w ≡ record { value = w.value; since = x ∷ w.since } = cc in
-                let table : next_of n.kind n.level w.value ≡ Some empty.next
-                = ap (λ (v : ValidWrite). next_of n.kind n.level v.value) (sym is) ∙ empty.table in
-                by_dsb other x' marks' is_dsb late (record {
-                  w = record { value = w'.value; since = x' ∷ w'.since };
-                  is_last = last_other;
-                  next = empty.next;
-                  table = ap (next_of n.kind n.level) (same' ∙ sym same) ∙ table;
-                  above = λ p below. (k.cleansed other).sound place p (map topped (x' ∷ w'.since)) (sym (above_same late p below)
-                      ∙ (k.cleansed one).complete place p (map topped (x ∷ w.since))
-                      (subst (λ (v : ValidWrite). IsAbove heading one place p v.since) is (empty.above p below)));
-                  holds_none = λ below under. sym (below_same empty.next table below under) ∙ empty.holds_none below under;
-                })
+                now_emptied heading k other n.kind n.level place x' marks' q dsb is_dsb late
+                (empty_alike heading k one other n.kind n.level place (x ∷ marks) (x' ∷ marks') now now'
+                (last_then heading k one n.kind n.level place x marks q dsb is_dsb w last)
+                (last_then heading k other n.kind n.level place x' marks' q dsb is_dsb w' last') (same ∙ sym same')
+                (above_same late) below_same (now_empty heading k one n.kind n.level place x marks q dsb is_dsb value holds gone))
 
             to_one : emptied heading other n.kind n.level place (x' ∷ marks') ≡ true → emptied heading one n.kind n.level place (x ∷ marks) ≡ true
             to_one gone =
                 let late : empties_tables heading.version ≡ true = ((k.held other).emptied_sound n.kind n.level place (x' ∷ marks') gone).version in
-                let empty : EmptyAbove heading other n.kind n.level place (x' ∷ marks') = now_empty other x' marks' holds_other gone in
-                let both : Some empty.w ≡ Some (record { value = w'.value; since = x' ∷ w'.since }) = sym empty.is_last ∙ last_other in
-                let is : empty.w ≡ record { value = w'.value; since = x' ∷ w'.since } = cc in
-                let table : next_of n.kind n.level w.value ≡ Some empty.next
-                = ap (next_of n.kind n.level) (same ∙ sym same')
-                ∙ (ap (λ (v : ValidWrite). next_of n.kind n.level v.value) (sym is) ∙ empty.table) in
-                by_dsb one x marks is_dsb late (record {
-                  w = record { value = w.value; since = x ∷ w.since };
-                  is_last = last_one;
-                  next = empty.next;
-                  table = table;
-                  above = λ p below. (k.cleansed one).sound place p (map topped (x ∷ w.since)) (above_same late p below
-                      ∙ (k.cleansed other).complete place p (map topped (x' ∷ w'.since))
-                      (subst (λ (v : ValidWrite). IsAbove heading other place p v.since) is (empty.above p below)));
-                  holds_none = λ below under. below_same empty.next table below under ∙ empty.holds_none below under;
-                })
+                now_emptied heading k one n.kind n.level place x marks q dsb is_dsb late
+                (empty_alike heading k other one n.kind n.level place (x' ∷ marks') (x ∷ marks) now' now
+                (last_then heading k other n.kind n.level place x' marks' q dsb is_dsb w' last')
+                (last_then heading k one n.kind n.level place x marks q dsb is_dsb w last) (same' ∙ sym same)
+                (λ p below. sym (above_same late p below))
+                (λ next table below under. sym (below_same next (ap (next_of n.kind n.level) (same ∙ sym same') ∙ table) below under))
+                (now_empty heading k other n.kind n.level place x' marks' q dsb is_dsb value (sym (a.held n place there inside) ∙ holds) gone))
 
           some_alike : kept heading one (emptied heading one n.kind n.level place (x ∷ marks)) place (λ v. x ∷ v.since) (Some w)
               ≡ kept heading other (emptied heading other n.kind n.level place (x' ∷ marks')) place (λ v. x' ∷ v.since) (Some w')
@@ -260,16 +255,18 @@ module _ (heading : Heading) (k : Known heading) (one other : Trust) (h h' : Lis
                   ∙ sym (ap (λ (b : Bool). cond (emptied heading other n.kind n.level place (x' ∷ marks') || b) None (Some w'.value)) (sym cleansed_same ∙ c))))
 
         with_below : Below_alike → held_at heading one (x ∷ marks) n place ≡ held_at heading other (x' ∷ marks') n place
-        with_below children = after_one n place ∙ (by (held_at heading one marks n place) refl ∙ sym (after_other n place))
+        with_below children =
+            held_then heading k one n.kind n.level place x marks q dsb is_dsb pes
+            ∙ (by (held_at heading one marks n place) refl ∙ sym (held_then heading k other n.kind n.level place x' marks' q dsb is_dsb pes))
           where
             by : (o : Option ℕ) → held_at heading one marks n place ≡ o
                 → kept heading one (emptied heading one n.kind n.level place (x ∷ marks)) place (λ w. x ∷ w.since) (last_valid n.kind n.level place marks)
                 ≡ kept heading other (emptied heading other n.kind n.level place (x' ∷ marks')) place (λ w. x' ∷ w.since) (last_valid n.kind n.level place marks')
             by None none =
                 none_stays heading k one place x (emptied heading one n.kind n.level place marks)
-                (emptied heading one n.kind n.level place (x ∷ marks)) (stays_one n place) (last_valid n.kind n.level place marks) none
+                (emptied heading one n.kind n.level place (x ∷ marks)) (still_emptied heading k one n.kind n.level place x marks q dsb is_dsb) (last_valid n.kind n.level place marks) none
                 ∙ sym (none_stays heading k other place x' (emptied heading other n.kind n.level place marks')
-                (emptied heading other n.kind n.level place (x' ∷ marks')) (stays_other n place) (last_valid n.kind n.level place marks')
+                (emptied heading other n.kind n.level place (x' ∷ marks')) (still_emptied heading k other n.kind n.level place x' marks' q dsb is_dsb) (last_valid n.kind n.level place marks')
                 (sym (a.held n place there inside) ∙ none))
             by (Some value) holds =
                 let u = last_of heading one (emptied heading one n.kind n.level place marks) place value (last_valid n.kind n.level place marks) holds in
@@ -436,7 +433,7 @@ module _ (heading : Heading) (k : Known heading) (one other : Trust) (h h' : Lis
           by None is =
               absurd (true≢false (sym some
               ∙ ap is_some (none_stays heading k one place x (emptied heading one n.kind n.level place marks)
-              (emptied heading one n.kind n.level place (x ∷ marks)) (stays_one q dsb is_dsb n place) (last_valid n.kind n.level place marks) is)))
+              (emptied heading one n.kind n.level place (x ∷ marks)) (still_emptied heading k one n.kind n.level place x marks q dsb is_dsb) (last_valid n.kind n.level place marks) is)))
 
       patterns_by : (f : Event) → e ≡ f → (w w' : ValidWrite) → is_some (held_after heading one n.kind n.level place f x marks) ≡ true
           → last_valid_after n.kind n.level place f x (last_valid n.kind n.level place marks) ≡ Some w
