@@ -1,14 +1,18 @@
 -- A history is alike to what came before its last event, where that event is idle.
-use Rattle.bbm_idle.proofs.Common.{Patterns, Alike, SamePatterns, adds, adds_at, answers_needed, is_needed}
+use Rattle.bbm_idle.proofs.Common.{Patterns, Alike, adds_at, adds_since, adds_to, answers_needed, is_needed}
 use Rattle.bbm_idle.proofs.Common.{is_needed_at, keeps_phases, takes_of, wrote_register, Known}
-use Rattle.bbm_rules.proofs.Common.{◌≡◌, ℕ, Bool, true, false, not, ◌&&◌, ◌||◌, ◌==◌, List, [], ◌∷◌, Option, Some, None}
+use Rattle.bbm_rules.proofs.Common.{◌≡◌, ℕ, ◌<◌, Bool, true, false, not, ◌&&◌, ◌||◌, ◌==◌, List, [], ◌∷◌, map, Option}
+use Rattle.bbm_rules.proofs.Common.{Some, None}
 use Rattle.bbm_rules.proofs.Common.{find, is_none, is_some, Contains, refl, sym, ◌∙◌, ap, subst, true≢false, and_parts}
 use Rattle.bbm_rules.proofs.Common.{false_from_ne_true, not-true, pe_finds, proved, If, Is, none_of, keeps, changes}
-use Rattle.bbm_rules.proofs.Common.{cleansed, half, seen, note, noted, ValidWrite, last_valid, any, Noted, events_of}
+use Rattle.bbm_rules.proofs.Common.{note, noted, ValidWrite, last_valid, any, Noted, events_of}
 use Rattle.bbm_rules.proofs.Common.{is_fresh, may_be_fresh, page_of, Barrier, Heading, Event, Init, Dsb, Dmb, Isb, Tlbi}
 use Rattle.bbm_rules.proofs.Common.{reaches, unanswered, first_pages, itself, Node, held_at, in_tree}
 use Rattle.bbm_rules.proofs.Common.{node_of, written_places}
 use Rattle.bbm_rules.specs.Broken.{broken}
+use Rattle.bbm_lemmas.proofs.Bools.{first_none, second_false, second_none}
+use Rattle.bbm_rules.specs.Held.{empties_tables}
+use Rattle.bbm_rules.specs.Notes.{topped}
 use Rattle.bbm_rules.specs.Mapped.{initialises, is_clean, is_mapped}
 use Rattle.bbm_rules.specs.Tree.{tree}
 use Rattle.bbm_alike.proofs.MappedAlike.{same_mapped}
@@ -18,7 +22,7 @@ use Rattle.bbm_idle.specs.Idle.{is_idle}
 use Rattle.bbm_idle.proofs.DsbBase.{same_held, same_patterns, same_tree}
 use Rattle.bbm_idle.proofs.Needed.{adds_needed}
 use Rattle.bbm_idle.proofs.Registers.{idle_isb}
-use Rattle.bbm_idle.proofs.Waits.{changeless, of_dmb, of_isb, of_tlbi}
+use Rattle.bbm_idle.proofs.Waits.{PatternsAlike, changeless, of_dmb, of_isb, of_tlbi}
 use Rattle.bbm_rules.proofs.HeldLemmas.{older}
 
 -- ---- tags
@@ -85,7 +89,7 @@ module _ (heading : Heading) where
     PatternsStay = (n : Node) (place value : ℕ) (w : ValidWrite) → Contains (tree heading Patterns (noted heading Patterns h)) n
         → page_of place ≡ n.page → held_at heading Patterns (noted heading Patterns h) n place ≡ Some value
         → last_valid n.kind n.level place (noted heading Patterns h) ≡ Some w
-        → SamePatterns heading place Patterns Patterns (note heading Patterns (noted heading Patterns h) e ∷ w.since) w.since
+        → PatternsAlike heading k place (note heading Patterns (noted heading Patterns h) e ∷ w.since) w.since
 
     same_fresh : Quiet e → tree heading Patterns after ≡ tree heading Patterns before → (page : ℕ)
         → is_fresh heading Patterns after page ≡ is_fresh heading Patterns before page
@@ -108,14 +112,14 @@ module _ (heading : Heading) where
 
     patterns_on : Quiet e → PatternsStay → (n : Node) (place value : ℕ) (w w' : ValidWrite) → Contains (tree heading Patterns before) n
         → page_of place ≡ n.page → held_at heading Patterns before n place ≡ Some value → last_valid n.kind n.level place after ≡ Some w
-        → last_valid n.kind n.level place before ≡ Some w' → SamePatterns heading place Patterns Patterns w.since w'.since
+        → last_valid n.kind n.level place before ≡ Some w' → PatternsAlike heading k place w.since w'.since
     patterns_on quiet stay n place value w w' t inside holds last last' =
         let v = older item (last_valid n.kind n.level place before) w
         (sym (k.changes.valid item before n.kind n.level place quiet.values) ∙ last) in
         let same : Some v.before ≡ Some w' = sym v.is ∙ last' in
         let one : v.before ≡ w' = cc in
         let since : item ∷ w'.since ≡ w.since = ap (λ (x : ValidWrite). item ∷ x.since) (sym one) ∙ v.longer in
-        subst (λ (s : List Noted). SamePatterns heading place Patterns Patterns s w'.since) since (stay n place value w' t inside holds last')
+        subst (λ (s : List Noted). PatternsAlike heading k place s w'.since) since (stay n place value w' t inside holds last')
 
     alike_by : Quiet e → SameRegisters (e ∷ h) h
         → tree heading Patterns after ≡ tree heading Patterns before → SameHeld → PatternsStay → SameTags heading Patterns Patterns (e ∷ h) h
@@ -131,8 +135,8 @@ module _ (heading : Heading) where
       fresh = same_fresh quiet trees;
       clean = same_clean quiet trees (λ n place t inside. same_held n place (there n t) inside);
       held = λ n place t inside. same_held n place (there n t) inside;
-      patterns = λ n place w w' t inside some last last'. by n place w w' (there n t) inside last last'
-          (held_at heading Patterns before n place) refl (sym (ap is_some (same_held n place (there n t) inside)) ∙ some);
+      patterns = λ n place w w' t inside some last last'. (alike_at n place w w' t inside some last last').0;
+      tops = λ late n place w w' t inside some last last'. (alike_at n place w w' t inside some last last').1 late;
       tags = tags.tags;
       given = k.changes.given e h quiet.roots;
       holds = tags.holds;
@@ -146,9 +150,15 @@ module _ (heading : Heading) where
         by : (n : Node) (place : ℕ) (w w' : ValidWrite) → Contains (tree heading Patterns before) n → page_of place ≡ n.page
             → last_valid n.kind n.level place after ≡ Some w → last_valid n.kind n.level place before ≡ Some w' → (o : Option ℕ)
             → held_at heading Patterns before n place ≡ o → is_some (held_at heading Patterns before n place) ≡ true
-            → SamePatterns heading place Patterns Patterns w.since w'.since
+            → PatternsAlike heading k place w.since w'.since
         by n place w w' t inside last last' None o some = absurd (true≢false (sym some ∙ ap is_some o))
         by n place w w' t inside last last' (Some value) o some = patterns_on quiet stay n place value w w' t inside o last last'
+
+        alike_at : (n : Node) (place : ℕ) (w w' : ValidWrite) → Contains (tree heading Patterns after) n → page_of place ≡ n.page
+            → is_some (held_at heading Patterns after n place) ≡ true → last_valid n.kind n.level place after ≡ Some w
+            → last_valid n.kind n.level place before ≡ Some w' → PatternsAlike heading k place w.since w'.since
+        alike_at n place w w' t inside some last last' = by n place w w' (there n t) inside last last'
+            (held_at heading Patterns before n place) refl (sym (ap is_some (same_held n place (there n t) inside)) ∙ some)
 
     -- where no place holds anything else
     same_trees : Quiet e → ((n : Node) (place : ℕ) → held_at heading Patterns after n place ≡ held_at heading Patterns before n place)
@@ -173,8 +183,11 @@ module _ (heading : Heading) where
   base k h (Dmb pe dsb) kept idle =
       alike_by k h (Dmb pe dsb) quiet (record { values = λ p reg. refl; standings = λ p. refl })
       (same_trees k h (Dmb pe dsb) quiet held) (λ n place t inside. held n place)
-      (λ n place value w t inside holds last. changeless heading k place item w.since
-      (of_dmb heading k place item.covers item.position w.since pe dsb))
+      (λ n place value w t inside holds last. (
+        changeless heading k place item w.since (of_dmb heading k place item.covers item.tops item.position w.since pe dsb),
+        λ late. changeless heading k place (topped item) (map topped w.since)
+            (of_dmb heading k place item.tops item.tops item.position (map topped w.since) pe dsb),
+      ))
       (k.same_tags.dmb Patterns pe dsb h)
     where
       quiet : Quiet (Dmb pe dsb)
@@ -188,8 +201,11 @@ module _ (heading : Heading) where
       held n place = k.held_step n.kind n.level place item (noted heading Patterns h) k.proper.some_pe
   base k h (Isb pe) kept idle =
       alike_by k h (Isb pe) quiet registers (same_trees k h (Isb pe) quiet held) (λ n place t inside. held n place)
-      (λ n place value w t inside holds last. changeless heading k place item w.since
-      (of_isb heading k place item.covers item.position w.since pe))
+      (λ n place value w t inside holds last. (
+        changeless heading k place item w.since (of_isb heading k place item.covers item.tops item.position w.since pe),
+        λ late. changeless heading k place (topped item) (map topped w.since)
+            (of_isb heading k place item.tops item.tops item.position (map topped w.since) pe),
+      ))
       (k.same_tags.isb Patterns pe h registers.values)
     where
       quiet : Quiet (Isb pe)
@@ -207,11 +223,18 @@ module _ (heading : Heading) where
   base k h (Tlbi pe op xt) kept idle =
       alike_by k h (Tlbi pe op xt) quiet (record { values = λ p reg. refl; standings = λ p. refl })
       (same_trees k h (Tlbi pe op xt) quiet held) (λ n place t inside. held n place)
-      (λ n place value w t inside holds last. changeless heading k place item w.since
-      (of_tlbi heading k place item.covers item.position w.since pe op xt (λ p less reached.
-      false_from_ne_true (adds (item.covers place) (seen heading place p w.since) (half heading place p w.since)
-      (cleansed heading Patterns place p w.since)) (λ adding. true≢false (sym (adds_needed heading k.notes_keep_the_events h (Tlbi pe op xt) p place n w less reached
-      (node_before k h kept_before n place t inside) last adding) ∙ needless)))))
+      (λ n place value w t inside holds last. (
+        changeless heading k place item w.since (of_tlbi heading k place item.covers item.tops item.position w.since pe op xt
+            (λ p less reached. first_none (adds_to heading (item.covers place) p place w.since)
+            (empties_tables heading.version && adds_to heading (item.tops place) p place (map topped w.since))
+            (adds_none n place w t inside last p less reached))),
+        λ late. changeless heading k place (topped item) (map topped w.since)
+            (of_tlbi heading k place item.tops item.tops item.position (map topped w.since) pe op xt
+            (λ p less reached. second_false (empties_tables heading.version) (adds_to heading (item.tops place) p place (map topped w.since))
+            (second_none (adds_to heading (item.covers place) p place w.since)
+            (empties_tables heading.version && adds_to heading (item.tops place) p place (map topped w.since))
+            (adds_none n place w t inside last p less reached)) late)),
+      ))
       (k.same_tags.tlbi pe op xt h (takes_none h (Tlbi pe op xt) needless))
     where
       quiet : Quiet (Tlbi pe op xt)
@@ -225,6 +248,14 @@ module _ (heading : Heading) where
 
       needless : is_needed heading h (Tlbi pe op xt) ≡ false
       needless = not-true (is_needed heading h (Tlbi pe op xt)) idle
+
+      -- where it reaches the PE it adds nothing
+      adds_none : (n : Node) (place : ℕ) (w : ValidWrite) → Contains (tree heading Patterns (noted heading Patterns h)) n
+          → page_of place ≡ n.page → last_valid n.kind n.level place (noted heading Patterns h) ≡ Some w → (p : ℕ) → p < heading.pes
+          → reaches heading (Tlbi pe op xt) p ≡ true → adds_since heading item p place (Some w) ≡ false
+      adds_none n place w t inside last p less reached = false_from_ne_true (adds_since heading item p place (Some w)) (λ adding.
+          true≢false (sym (adds_needed heading k.notes_keep_the_events h (Tlbi pe op xt) p place n w less reached
+          (node_before k h kept_before n place t inside) last adding) ∙ needless))
 
       held : (n : Node) (place : ℕ) → held_at heading Patterns (noted heading Patterns (Tlbi pe op xt ∷ h)) n place
           ≡ held_at heading Patterns (noted heading Patterns h) n place

@@ -2,40 +2,35 @@
 -- the same patterns.
 use Rattle.bbm_idle.proofs.Common.{Phase, Clean, Live, Patterns, Kind, SamePatterns, answers_needed, keeps_phases}
 use Rattle.bbm_idle.proofs.Common.{Known, same_phase}
-use Rattle.bbm_rules.proofs.Common.{◌≡◌, ℕ, ◌<◌, Bool, true, false, cond, not, List, ◌∷◌, Option, Some, None}
+use Rattle.bbm_rules.proofs.Common.{◌≡◌, ℕ, ◌<◌, Bool, true, false, cond, not, List, ◌∷◌, map, Option, Some, None}
 use Rattle.bbm_rules.proofs.Common.{option_and_then, is_none, Contains, refl, sym, ◌∙◌, ap, subst, inl, inr, and_parts}
-use Rattle.bbm_rules.proofs.Common.{not-true, In, is_valid, every_pe, keeps, cleansed, half, seen, cover_at, note}
-use Rattle.bbm_rules.proofs.Common.{noted, ValidWrite, cleansed_everywhere, held, last_valid, any, Noted, broken_phase}
+use Rattle.bbm_rules.proofs.Common.{not-true, In, is_valid, every_pe, keeps, cleansed, half, seen, note}
+use Rattle.bbm_rules.proofs.Common.{noted, ValidWrite, held, last_valid, any, Noted, broken_phase}
 use Rattle.bbm_rules.proofs.Common.{page_of, Barrier, Heading, Event, Write, Dsb, unanswered, itself, Node, held_at}
 use Rattle.bbm_rules.proofs.Common.{node_of, value_of, written_places}
 use Rattle.bbm_lemmas.proofs.Every.{every_at}
+use Rattle.bbm_rules.proofs.Emptied.{seen_topped}
 use Rattle.bbm_rules.specs.Broken.{broken}
+use Rattle.bbm_rules.specs.Held.{emptied, empties_tables}
+use Rattle.bbm_rules.specs.Notes.{topped}
 use Rattle.bbm_rules.specs.Phases.{phase_of}
 use Rattle.bbm_rules.specs.Tree.{tree}
-use Rattle.bbm_histories.specs.TreeChanges.{HeldChange}
+use Rattle.bbm_alike.proofs.HeldStep.{last_of}
+use Rattle.bbm_histories.specs.TreeChanges.{HeldBy, HeldChange}
 use Rattle.bbm_histories.specs.TreeSteps.{holds_above, node_where}
 use Rattle.bbm_idle.specs.Idle.{is_idle}
 use Rattle.bbm_lemmas.proofs.Elements.{every_in}
-use Rattle.bbm_idle.proofs.Needed.{half_stays, written_at}
+use Rattle.bbm_idle.proofs.Needed.{above_stays, half_stays, half_top_stays, written_at}
 use Rattle.bbm_idle.proofs.Phases.{SameMarks, never_clean, same_marks}
 use Rattle.bbm_idle.proofs.Since.{Untouched, Unwritten, untouched, unwritten_on}
-use Rattle.bbm_idle.proofs.Waits.{changeless, of_dsb}
+use Rattle.bbm_idle.proofs.Waits.{PatternsAlike, changeless, of_dsb}
 
 module _ (heading : Heading) where
   -- what holds a value has a last valid write
   pub held_last : (kind : Kind) (level place : ℕ) (h : List Noted) (value : ℕ) → held heading Patterns kind level place h ≡ Some value
       → (w : ValidWrite) × (last_valid kind level place h ≡ Some w) × (w.value ≡ value)
-  held_last kind level place h value e = by (last_valid kind level place h) refl e
-    where
-      go : (w : ValidWrite) (c : Bool) → cond c None (Some w.value) ≡ Some value → w.value ≡ value
-      go w true e = cc
-      go w false e = cc
-
-      by : (o : Option ValidWrite) → last_valid kind level place h ≡ o
-          → option_and_then (λ w. cond (cleansed_everywhere heading Patterns place w.since) None (Some w.value)) o ≡ Some value
-          → (w : ValidWrite) × (last_valid kind level place h ≡ Some w) × (w.value ≡ value)
-      by None o e = cc
-      by (Some w) o e = (w, o, go w (cleansed_everywhere heading Patterns place w.since) e)
+  held_last kind level place h value e =
+      last_of heading Patterns (emptied heading Patterns kind level place h) place value (last_valid kind level place h) e
 
   module _ (k : Known heading) (h : List Event) (pe : ℕ) (dsb : Barrier)
       (kept : keeps heading Patterns (Dsb pe dsb ∷ h) ≡ true) (idle : is_idle heading h (Dsb pe dsb) ≡ true) where
@@ -170,14 +165,33 @@ module _ (heading : Heading) where
               ∙ half_stays heading k h kept_before n place value w (record { in_tree = t; inside = inside; holds = holds; is_last = last })
               p less pe dsb (not-true (any (answers_needed heading dsb) (unanswered itself pe h)) idle_parts.1))
 
-    pub same_patterns : (n : Node) (place value : ℕ) (w : ValidWrite) → Contains (tree heading Patterns before) n → page_of place ≡ n.page
-        → held_at heading Patterns before n place ≡ Some value → last_valid n.kind n.level place before ≡ Some w
-        → SamePatterns heading place Patterns Patterns (item ∷ w.since) w.since
-    same_patterns n place value w t inside holds last =
-        changeless heading k place item w.since (of_dsb heading k place (cover_at heading Patterns before (Dsb pe dsb)) item.position w.since pe dsb
-        (λ p less. let m = marks n place value p w t inside holds last less in sym
-        (k.pattern_steps.seen place p item w.since) ∙ m.seen_same)
-        (λ p less. let m = marks n place value p w t inside holds last less in sym
-        (k.pattern_steps.half place p item w.since) ∙ m.half_same)
-        (λ p less. let m = marks n place value p w t inside holds last less in sym
-        (k.pattern_steps.cleansed place p item w.since) ∙ m.cleansed_same))
+    module _ (n : Node) (place value : ℕ) (w : ValidWrite) (t : Contains (tree heading Patterns before) n) (inside : page_of place ≡ n.page)
+        (holds : held_at heading Patterns before n place ≡ Some value) (last : last_valid n.kind n.level place before ≡ Some w) where
+      answers_none : any (answers_needed heading dsb) (unanswered itself pe h) ≡ false
+      answers_none = not-true (any (answers_needed heading dsb) (unanswered itself pe h)) idle_parts.1
+
+      by : HeldBy heading Patterns before n place value w
+      by = record { in_tree = t; inside = inside; holds = holds; is_last = last }
+
+      seen_still : (p : ℕ) → p < heading.pes → seen heading place p (item ∷ w.since) ≡ seen heading place p w.since
+      seen_still p less = (marks n place value p w t inside holds last less).seen_same
+
+      same_tops : empties_tables heading.version ≡ true
+          → SamePatterns heading place Patterns Patterns (map topped (item ∷ w.since)) (map topped w.since)
+      same_tops late =
+          changeless heading k place (topped item) (map topped w.since)
+          (of_dsb heading k place item.tops item.tops item.position (map topped w.since) pe dsb
+          (λ p less. sym (k.pattern_steps.seen place p (topped item) (map topped w.since))
+          ∙ (seen_topped heading place p (item ∷ w.since) ∙ (seen_still p less ∙ sym (seen_topped heading place p w.since))))
+          (λ p less. half_top_stays heading k h kept_before n place value w by p less pe dsb answers_none late)
+          (λ p less. above_stays heading k h kept_before n place value w by p less pe dsb answers_none late))
+
+      pub same_patterns : PatternsAlike heading k place (item ∷ w.since) w.since
+      same_patterns = (
+        changeless heading k place item w.since (of_dsb heading k place item.covers item.tops item.position w.since pe dsb
+            (λ p less. sym (k.pattern_steps.seen place p item w.since) ∙ seen_still p less)
+            (λ p less. sym (k.pattern_steps.half place p item w.since) ∙ (marks n place value p w t inside holds last less).half_same)
+            (λ p less. sym (k.pattern_steps.cleansed place p item w.since)
+            ∙ (marks n place value p w t inside holds last less).cleansed_same)),
+        same_tops,
+      )

@@ -1,16 +1,21 @@
 -- Histories that are alike judge alike which TLBIs are needed, and which phases an event keeps.
-use Rattle.bbm_idle.proofs.Common.{Phase, Patterns, Alike, SamePatterns, adds, adds_at, adds_since, is_needed}
+use Rattle.bbm_idle.proofs.Common.{Phase, Patterns, Alike, SamePatterns, adds, adds_at, adds_since, adds_to, is_needed}
 use Rattle.bbm_idle.proofs.Common.{is_needed_at, keeps_phases, takes_of, Known, same_phase}
-use Rattle.bbm_rules.proofs.Common.{◌≡◌, ℕ, ◌<◌, Bool, false, ◌&&◌, ◌||◌, ◌==◌, List, ◌∷◌, Option, Some, None}
+use Rattle.bbm_rules.proofs.Common.{◌≡◌, ℕ, ◌<◌, Bool, true, false, ◌&&◌, ◌||◌, ◌==◌, List, ◌∷◌, Option, Some, None}
 use Rattle.bbm_rules.proofs.Common.{option_and_then, option_map_or, Contains, find, is_some, map, unwrap_or}
 use Rattle.bbm_rules.proofs.Common.{refl, sym, ◌∙◌, ap, every_same, Cover, PlaceView}
-use Rattle.bbm_rules.proofs.Common.{cover_of, desc_of, every_pe, cleansed, half, seen, cover_at}
+use Rattle.bbm_rules.proofs.Common.{cover_of, desc_of, every_pe, cleansed, half, seen, cover_at, note}
 use Rattle.bbm_rules.proofs.Common.{is_global, noted, view_at, ValidWrite, last_valid, any, below, every}
 use Rattle.bbm_rules.proofs.Common.{Noted, events_of, page_of, Heading, Event, Tlbi, Tag}
 use Rattle.bbm_rules.proofs.Common.{Scope, reaches, named_scope, vmid_of, Declared, first_pages, given_up, roots_of, distinct}
 use Rattle.bbm_rules.proofs.Common.{◌++◌, ever_read, holds_at, kept_at, left_at, tag_set, tags_of, takes_tag, Node, held_at, is_childless}
 use Rattle.bbm_rules.proofs.Common.{next_of, node_of, region_of, written_places}
+use Rattle.std.proofs.Math.Bool.{and-false}
+use Rattle.bbm_tlbi_scope.specs.ScopeCovers.{at_end}
 use Rattle.bbm_tlbi_scope.specs.declared.entry.Cover.TheVariants.{None as NoCover}
+use Rattle.bbm_rules.specs.Covers.{top_at}
+use Rattle.bbm_rules.specs.Held.{empties_tables}
+use Rattle.bbm_rules.specs.Notes.{topped}
 use Rattle.bbm_rules.specs.Phases.{phase_of}
 use Rattle.bbm_rules.specs.TagLaws.{TagKeptBySentence}
 use Rattle.bbm_rules.specs.Tree.{tree}
@@ -22,34 +27,45 @@ use Rattle.bbm_lemmas.proofs.Words.{below_less}
 
 -- ---- tests that say the same
 
--- a TLBI covers no place that holds nothing
-uncovered : (heading : Heading) (ns : List Noted) (e : Event) (place : ℕ) (n : Node) → node_of heading Patterns ns (page_of place) ≡ Some n
-    → held_at heading Patterns ns n place ≡ None → cover_at heading Patterns ns e place ≡ NoCover
-uncovered heading ns (Tlbi pe op xt) place n node none =
-    ap (λ (v : Option PlaceView). unwrap_or (option_and_then (λ s. option_and_then (λ x. Some (cover_of s (vmid_of heading (events_of ns) pe) x)) v)
-    (named_scope heading (events_of ns) pe op xt)) NoCover) blind
-    ∙ by (named_scope heading (events_of ns) pe op xt)
-  where
-    look : Node → ℕ → Option PlaceView
-    look m value = Some (record {
-      kind = m.kind;
-      region = region_of m place;
-      level = m.level;
-      table = is_some (next_of m.kind m.level value);
-      global = is_global (desc_of m.kind m.level value);
-      childless = is_childless heading Patterns ns m value;
-      tags = tag_set (tags_of heading Patterns m.root (events_of ns));
-    })
+-- a TLBI covers no place that holds nothing, and nothing that ends there
+module _ (heading : Heading) (ns : List Noted) (place : ℕ) (n : Node) (node : node_of heading Patterns ns (page_of place) ≡ Some n)
+    (none : held_at heading Patterns ns n place ≡ None) where
+  -- the cover, where a TLBI sees the place so
+  abbrev cover_by : (PlaceView → PlaceView) → Option ℕ → Option PlaceView → Option Scope → Cover
+  cover_by seen_so vmid view scope =
+      unwrap_or (option_and_then (λ s. option_and_then (λ v. Some (cover_of s vmid (seen_so v))) view) scope) NoCover
 
-    blind : view_at heading Patterns ns place ≡ None
-    blind =
-        ap (λ (o : Option Node). option_and_then (λ m. option_and_then (look m) (held_at heading Patterns ns m place)) o) node
-        ∙ ap (λ (o : Option ℕ). option_and_then (look n) o) none
+  abbrev look : Node → ℕ → Option PlaceView
+  look m value = Some (record {
+    kind = m.kind;
+    region = region_of m place;
+    level = m.level;
+    table = is_some (next_of m.kind m.level value);
+    global = is_global (desc_of m.kind m.level value);
+    childless = is_childless heading Patterns ns m value;
+    tags = tag_set (tags_of heading Patterns m.root (events_of ns));
+  })
 
-    by : (o : Option Scope) → unwrap_or (option_and_then (λ s. option_and_then (λ x. Some (cover_of s (vmid_of heading (events_of ns) pe) x)) None) o) NoCover ≡ NoCover
-    by None = refl
-    by (Some s) = refl
-uncovered heading ns e place n node none = refl
+  blind : view_at heading Patterns ns place ≡ None
+  blind =
+      ap (λ (o : Option Node). option_and_then (λ m. option_and_then (look m) (held_at heading Patterns ns m place)) o) node
+      ∙ ap (λ (o : Option ℕ). option_and_then (look n) o) none
+
+  unseen : (seen_so : PlaceView → PlaceView) (vmid : Option ℕ) (scope : Option Scope)
+      → cover_by seen_so vmid (view_at heading Patterns ns place) scope ≡ NoCover
+  unseen seen_so vmid scope = ap (λ (v : Option PlaceView). cover_by seen_so vmid v scope) blind ∙ by scope
+    where
+      by : (o : Option Scope) → cover_by seen_so vmid None o ≡ NoCover
+      by None = refl
+      by (Some s) = refl
+
+  uncovered : (e : Event) → cover_at heading Patterns ns e place ≡ NoCover
+  uncovered (Tlbi pe op xt) = unseen (λ v. v) (vmid_of heading (events_of ns) pe) (named_scope heading (events_of ns) pe op xt)
+  uncovered e = refl
+
+  untopped : (e : Event) → top_at heading Patterns ns e place ≡ NoCover
+  untopped (Tlbi pe op xt) = unseen at_end (vmid_of heading (events_of ns) pe) (named_scope heading (events_of ns) pe op xt)
+  untopped e = refl
 
 module _ (heading : Heading) (h h' : List Event) (a : Alike heading Patterns Patterns h h') where
   abbrev here : List Noted
@@ -86,13 +102,44 @@ module _ (heading : Heading) (h h' : List Event) (a : Alike heading Patterns Pat
 
   module _ (k : Known heading) (e : Event) (p : ℕ) (less : p < heading.pes) (place : ℕ) where
     abbrev adds_by : List Noted → Option ValidWrite → Bool
-    adds_by ns o = adds_since heading (cover_at heading Patterns ns e place) p place o
+    adds_by ns o = adds_since heading (note heading Patterns ns e) p place o
 
     -- where it covers nothing, it adds nothing
-    adds_none : (ns : List Noted) (o : Option ValidWrite) → cover_at heading Patterns ns e place ≡ NoCover → adds_by ns o ≡ false
-    adds_none ns None none = refl
-    adds_none ns (Some w) none = ap (λ (x : Cover). adds x (seen heading place p w.since) (half heading place p w.since)
-        (cleansed heading Patterns place p w.since)) none
+    adds_none : (ns : List Noted) (o : Option ValidWrite) → cover_at heading Patterns ns e place ≡ NoCover
+        → top_at heading Patterns ns e place ≡ NoCover → adds_by ns o ≡ false
+    adds_none ns None none none_top = refl
+    adds_none ns (Some w) none none_top =
+        ap (λ (x : Cover). adds_to heading x p place w.since
+        || (empties_tables heading.version && adds_to heading (top_at heading Patterns ns e place) p place (map topped w.since))) none
+        ∙ (ap (λ (x : Cover). empties_tables heading.version && adds_to heading x p place (map topped w.since)) none_top
+        ∙ and-false (empties_tables heading.version))
+
+    -- as much where the same is seen, half and cleansed
+    same_to : (cover : Cover) (since since' : List Noted) → SamePatterns heading place Patterns Patterns since since'
+        → adds_to heading cover p place since ≡ adds_to heading cover p place since'
+    same_to cover since since' s =
+        ap (λ (x : Bool). adds cover x (half heading place p since) (cleansed heading Patterns place p since)) (s.seen_alike p less)
+        ∙ (ap (λ (x : Bool). adds cover (seen heading place p since') x (cleansed heading Patterns place p since)) (s.half_alike p less)
+        ∙ ap (λ (x : Bool). adds cover (seen heading place p since') (half heading place p since') x) (s.cleansed_alike p less))
+
+    same_since : (w w' : ValidWrite) → SamePatterns heading place Patterns Patterns w.since w'.since
+        → (empties_tables heading.version ≡ true → SamePatterns heading place Patterns Patterns (map topped w.since) (map topped w'.since))
+        → adds_by here (Some w) ≡ adds_by there (Some w')
+    same_since w w' s tops =
+        ap (λ (x : Bool). x || top here w) (ap (λ (c : Cover). adds_to heading c p place w.since) (k.covers_alike.covers h h' e place a)
+        ∙ same_to (cover_at heading Patterns there e place) w.since w'.since s)
+        ∙ ap (λ (x : Bool). adds_to heading (cover_at heading Patterns there e place) p place w'.since || x)
+        (by (empties_tables heading.version) tops)
+      where
+        top : List Noted → ValidWrite → Bool
+        top ns v = empties_tables heading.version && adds_to heading (top_at heading Patterns ns e place) p place (map topped v.since)
+
+        by : (late : Bool) → (late ≡ true → SamePatterns heading place Patterns Patterns (map topped w.since) (map topped w'.since))
+            → (late && adds_to heading (top_at heading Patterns here e place) p place (map topped w.since))
+            ≡ (late && adds_to heading (top_at heading Patterns there e place) p place (map topped w'.since))
+        by false tops = refl
+        by true tops = ap (λ (c : Cover). adds_to heading c p place (map topped w.since)) (k.covers_alike.tops h h' e place a)
+            ∙ same_to (top_at heading Patterns there e place) (map topped w.since) (map topped w'.since) (tops refl)
 
     same_node : node_of heading Patterns here (page_of place) ≡ node_of heading Patterns there (page_of place)
     same_node = ap (λ (ns : List Node). find (λ (n : Node). n.page == page_of place) ns) a.trees
@@ -116,25 +163,19 @@ module _ (heading : Heading) (h h' : List Event) (a : Alike heading Patterns Pat
         holding n value t inside holds =
             let w = held_last heading n.kind n.level place here value holds in
             let w' = held_last heading n.kind n.level place there value (sym (a.held n place t inside) ∙ holds) in
-            let s : SamePatterns heading place Patterns Patterns w.0.since w'.0.since
-            = a.patterns n place w.0 w'.0 t inside (ap is_some holds) w.1 w'.1 in
             ap (adds_by here) w.1
-            ∙ (ap (λ (x : Cover). adds x (seen heading place p w.0.since) (half heading place p w.0.since) (cleansed heading Patterns place p w.0.since))
-            (k.covers_alike h h' e place a)
-            ∙ (ap (λ (x : Bool). adds (cover_at heading Patterns there e place) x (half heading place p w.0.since) (cleansed heading Patterns place p w.0.since))
-            (s.seen_alike p less)
-            ∙ (ap (λ (x : Bool). adds (cover_at heading Patterns there e place) (seen heading place p w'.0.since) x (cleansed heading Patterns place p w.0.since))
-            (s.half_alike p less)
-            ∙ (ap (λ (x : Bool). adds (cover_at heading Patterns there e place) (seen heading place p w'.0.since) (half heading place p w'.0.since) x)
-            (s.cleansed_alike p less)
-            ∙ sym (ap (adds_by there) w'.1)))))
+            ∙ (same_since w.0 w'.0 (a.patterns n place w.0 w'.0 t inside (ap is_some holds) w.1 w'.1)
+            (λ late. a.tops late n place w.0 w'.0 t inside (ap is_some holds) w.1 w'.1)
+            ∙ sym (ap (adds_by there) w'.1))
 
         inside_tree : (n : Node) → node_of heading Patterns here (page_of place) ≡ Some n → (o : Option ℕ) → held_at heading Patterns here n place ≡ o
             → adds_by here (last_valid n.kind n.level place here) ≡ adds_by there (last_valid n.kind n.level place there)
         inside_tree n node None o =
-            let none : cover_at heading Patterns here e place ≡ NoCover = uncovered heading here e place n node o in
-            adds_none here (last_valid n.kind n.level place here) none
-            ∙ sym (adds_none there (last_valid n.kind n.level place there) (sym (k.covers_alike h h' e place a) ∙ none))
+            let none : cover_at heading Patterns here e place ≡ NoCover = uncovered heading here place n node o e in
+            let none_top : top_at heading Patterns here e place ≡ NoCover = untopped heading here place n node o e in
+            adds_none here (last_valid n.kind n.level place here) none none_top
+            ∙ sym (adds_none there (last_valid n.kind n.level place there) (sym (k.covers_alike.covers h h' e place a) ∙ none)
+            (sym (k.covers_alike.tops h h' e place a) ∙ none_top))
         inside_tree n node (Some value) o =
             let t = k.tree.taken here (page_of place) n node in holding n value t.0 (sym t.1) o
 

@@ -1,11 +1,14 @@
 -- A TLBI is needed exactly where the sentence says so.
-use Rattle.bbm_idle.proofs.Common.{Patterns, adds, adds_at, adds_since, is_needed, is_needed_at, takes_of}
-use Rattle.bbm_rules.proofs.Common.{◌≡◌, ℕ, ◌<◌, true, false, not, ◌&&◌, ◌||◌, List, Option, Some, None, option_map_or}
-use Rattle.bbm_rules.proofs.Common.{◌⊎◌, inl, inr, refl, sym, ◌∙◌, true≢false, and_from, and_parts, not-true, or_cases}
+use Rattle.bbm_idle.proofs.Common.{Patterns, adds_at, adds_since, adds_to, is_needed, is_needed_at, takes_of}
+use Rattle.bbm_rules.proofs.Common.{◌≡◌, ℕ, ◌<◌, true, false, not, ◌&&◌, ◌||◌, List, map, Option, Some, None}
+use Rattle.bbm_rules.proofs.Common.{option_map_or, ◌⊎◌, inl, inr, refl, sym, ◌∙◌, true≢false, and_from, and_parts, not-true, or_cases}
+use Rattle.bbm_rules.proofs.Common.{or_left, or_right}
 use Rattle.bbm_rules.proofs.Common.{In, any_finds, any_found, from_contains, any, Cover, Full, Half}
-use Rattle.bbm_rules.proofs.Common.{Second, cover_at, noted, cleansed, half, seen, ValidWrite, last_valid, Noted}
+use Rattle.bbm_rules.proofs.Common.{Second, note, noted, cleansed, half, seen, ValidWrite, last_valid, Noted}
 use Rattle.bbm_rules.proofs.Common.{page_of, Heading, Event, Tag, reaches, first_pages, distinct, ever_read}
 use Rattle.bbm_rules.proofs.Common.{kept_at, takes_tag, Node, node_of, written_places}
+use Rattle.bbm_rules.specs.Held.{empties_tables}
+use Rattle.bbm_rules.specs.Notes.{topped}
 use Rattle.bbm_tlbi_scope.specs.declared.entry.Cover.TheVariants.{None as NoCover}
 use Rattle.bbm_alike.proofs.HeldTags.{kept_is_listed}
 use Rattle.bbm_lemmas.proofs.Bools.{not_from}
@@ -17,8 +20,8 @@ use Rattle.bbm_idle.proofs.Needed.{adds_needed, takes_needed}
 module _ (heading : Heading) (t : Terms heading) where
   -- ---- a place
 
-  further : (c : Cover) (place p : ℕ) (since : List Noted) → adds c (seen heading place p since) (half heading place p since)
-      (cleansed heading Patterns place p since) ≡ true → TakesFurther heading c place p since
+  further : (c : Cover) (place p : ℕ) (since : List Noted) → adds_to heading c p place since ≡ true
+      → TakesFurther heading c place p since
   further Full place p since e =
       let parts = and_parts (seen heading place p since) (not (cleansed heading Patterns place p since)) e in (
         t.seen.sound place p since parts.0,
@@ -37,7 +40,7 @@ module _ (heading : Heading) (t : Terms heading) where
   further NoCover place p since e = true≢false (sym e)
 
   adding : (c : Cover) (place p : ℕ) (since : List Noted) → TakesFurther heading c place p since
-      → adds c (seen heading place p since) (half heading place p since) (cleansed heading Patterns place p since) ≡ true
+      → adds_to heading c p place since ≡ true
   adding Full place p since f =
       and_from (seen heading place p since) (not (cleansed heading Patterns place p since)) (t.seen.complete place p since f.0)
       (not_from (cleansed heading Patterns place p since) (λ e. f.1 (t.cleansed.sound place p since e)))
@@ -49,11 +52,39 @@ module _ (heading : Heading) (t : Terms heading) where
       (not_from (cleansed heading Patterns place p since) (λ e. f.1 (t.cleansed.sound place p since e)))
   adding NoCover place p since f = absurd f
 
+  -- by its cover, or from version 5 on by its top cover
+  abbrev FurtherBy : Noted → ℕ → ℕ → List Noted → Type 0
+  FurtherBy tlbi place p since = TakesFurther heading (tlbi.covers place) place p since
+      ⊎ ((empties_tables heading.version ≡ true) × TakesFurther heading (tlbi.tops place) place p (map topped since))
+
+  further_by : (tlbi : Noted) (place p : ℕ) (w : ValidWrite) → adds_since heading tlbi p place (Some w) ≡ true
+      → FurtherBy tlbi place p w.since
+  further_by tlbi place p w e =
+      elim (or_cases (adds_to heading (tlbi.covers place) p place w.since)
+      (empties_tables heading.version && adds_to heading (tlbi.tops place) p place (map topped w.since)) e) [
+        | inl whole ↦ inl (further (tlbi.covers place) place p w.since whole)
+        | inr top ↦
+            let parts = and_parts (empties_tables heading.version) (adds_to heading (tlbi.tops place) p place (map topped w.since)) top in
+            inr (parts.0, further (tlbi.tops place) place p (map topped w.since) parts.1)
+      ]
+
+  adding_by : (tlbi : Noted) (place p : ℕ) (w : ValidWrite) → FurtherBy tlbi place p w.since
+      → adds_since heading tlbi p place (Some w) ≡ true
+  adding_by tlbi place p w (inl f) =
+      or_left (adds_to heading (tlbi.covers place) p place w.since)
+      (empties_tables heading.version && adds_to heading (tlbi.tops place) p place (map topped w.since))
+      (adding (tlbi.covers place) place p w.since f)
+  adding_by tlbi place p w (inr f) =
+      or_right (adds_to heading (tlbi.covers place) p place w.since)
+      (empties_tables heading.version && adds_to heading (tlbi.tops place) p place (map topped w.since))
+      (and_from (empties_tables heading.version) (adds_to heading (tlbi.tops place) p place (map topped w.since)) f.0
+      (adding (tlbi.tops place) place p (map topped w.since) f.1))
+
   for_place : (h : List Noted) (e : Event) (p place : ℕ) → adds_at heading h e p place ≡ true → NeededForPlace heading h e p place
   for_place h e p place adds_some = by (node_of heading Patterns h (page_of place)) refl adds_some
     where
       over : (n : Node) → node_of heading Patterns h (page_of place) ≡ Some n → (o : Option ValidWrite)
-          → last_valid n.kind n.level place h ≡ o → adds_since heading (cover_at heading Patterns h e place) p place o ≡ true
+          → last_valid n.kind n.level place h ≡ o → adds_since heading (note heading Patterns h e) p place o ≡ true
           → NeededForPlace heading h e p place
       over n node None last a = absurd (true≢false (sym a))
       over n node (Some w) last a = record {
@@ -61,11 +92,11 @@ module _ (heading : Heading) (t : Terms heading) where
         in_tree = node;
         write = w;
         last_write = t.last_valid.sound n.kind n.level place h w last;
-        further = further (cover_at heading Patterns h e place) place p w.since a;
+        further = further_by (note heading Patterns h e) place p w a;
       }
 
       by : (o : Option Node) → node_of heading Patterns h (page_of place) ≡ o
-          → option_map_or (λ n. adds_since heading (cover_at heading Patterns h e place) p place (last_valid n.kind n.level place h)) o false ≡ true
+          → option_map_or (λ n. adds_since heading (note heading Patterns h e) p place (last_valid n.kind n.level place h)) o false ≡ true
           → NeededForPlace heading h e p place
       by None node a = absurd (true≢false (sym a))
       by (Some n) node a = over n node (last_valid n.kind n.level place h) refl a
@@ -123,7 +154,7 @@ module _ (heading : Heading) (t : Terms heading) where
           let f : NeededForPlace heading (noted heading Patterns h) e n.p there.0 = there.1 in
           adds_needed heading t.notes_keep_the_events h e n.p there.0 f.node f.write n.is_pe n.reached f.in_tree
           (t.last_valid.complete f.node.kind f.node.level there.0 (noted heading Patterns h) f.write f.last_write)
-          (adding (cover_at heading Patterns (noted heading Patterns h) e there.0) there.0 n.p f.write.since f.further)
+          (adding_by (note heading Patterns (noted heading Patterns h) e) there.0 n.p f.write f.further)
       by (inr there) =
           let f : NeededForTag heading h e n.p there.0 = there.1 in
           takes_needed heading h e n.p f.page n.is_pe n.reached (listed h e n.p there.0 f) (taking h e n.p there.0 n.is_pe f)

@@ -1,11 +1,13 @@
 -- What is seen, half and cleansed, and what waits and still counts, after an event that is idle.
-use Rattle.bbm_idle.proofs.Common.{Patterns, answered_by, half_after, half_waits, is_tlbi, SamePatterns, adds, Known}
-use Rattle.bbm_rules.proofs.Common.{◌≡◌, ℕ, ◌<◌, Bool, true, false, cond, not, ◌&&◌, ◌||◌, ◌==◌, List, ◌∷◌, refl, sym}
+use Rattle.bbm_idle.proofs.Common.{Patterns, answered_by, half_after, half_waits, is_tlbi, SamePatterns, adds, adds_to}
+use Rattle.bbm_idle.proofs.Common.{Known}
+use Rattle.bbm_rules.proofs.Common.{◌≡◌, ℕ, ◌<◌, Bool, true, false, cond, not, ◌&&◌, ◌||◌, ◌==◌, List, ◌∷◌, map, refl, sym}
 use Rattle.bbm_rules.proofs.Common.{◌∙◌, ap, true≢false, and_parts, eqb-true, false_from_ne_true, or_parts, proved, If}
 use Rattle.bbm_rules.proofs.Common.{Is, answers, Cover, Half, Second, Full, Barrier, Heading, Event, Dsb, Dmb, Isb}
 use Rattle.bbm_rules.proofs.Common.{Tlbi, TlbiOp, cleansed, flushes, half, same_cover, seen, writes, Noted, Issued}
 use Rattle.bbm_rules.proofs.Common.{reaches}
-use Rattle.bbm_rules.specs.Notes.{event_of}
+use Rattle.bbm_rules.specs.Held.{empties_tables}
+use Rattle.bbm_rules.specs.Notes.{event_of, topped}
 use Rattle.bbm_histories.specs.HistorySteps.{cleansed_after, full_waits, second_waits, seen_after, waits_after, wrote}
 use Rattle.bbm_idle.proofs.Since.{waits_answered}
 
@@ -46,8 +48,8 @@ left_alone pe q b dsb waiting none = by (pe == q && answers dsb b) refl
     by false c = refl
 
 -- an event with its notes
-abbrev pub item : Event → (ℕ → Cover) → ℕ → Noted
-item e covers position = record { event = e; covers = covers; position = position }
+abbrev pub item : Event → (ℕ → Cover) → (ℕ → Cover) → ℕ → Noted
+item e covers tops position = record { event = e; covers = covers; tops = tops; position = position }
 
 module _ (heading : Heading) (k : Known heading) (place : ℕ) where
   -- The event n changes nothing of what came after the last valid write, but for what waits and doesn't count.
@@ -66,6 +68,11 @@ module _ (heading : Heading) (k : Known heading) (place : ℕ) where
     pub second_same : (p q : ℕ) (b : Bool) → p < heading.pes → cleansed_after heading place p n.event since ≡ false
         → waits_after event_of q b (flushes heading place p Second (half heading place p)) n.event n since
         ≡ second_waits heading place p q b since
+
+  -- by covers the patterns are the same, and from version 5 on by top covers, too
+  abbrev pub PatternsAlike : List Noted → List Noted → Type 0
+  PatternsAlike since since' = SamePatterns heading place Patterns Patterns since since' × (empties_tables heading.version ≡ true
+      → SamePatterns heading place Patterns Patterns (map topped since) (map topped since'))
 
   pub changeless : (n : Noted) (since : List Noted) → Changeless n since
       → SamePatterns heading place Patterns Patterns (n ∷ since) since
@@ -88,8 +95,8 @@ module _ (heading : Heading) (k : Known heading) (place : ℕ) where
       wrote_before : ℕ → ℕ → Bool
       wrote_before p q = wrote heading place p q since
 
-  module _ (covers : ℕ → Cover) (position : ℕ) (since : List Noted) where
-    pub of_dmb : (pe : ℕ) (dsb : Barrier) → Changeless (item (Dmb pe dsb) covers position) since
+  module _ (covers tops : ℕ → Cover) (position : ℕ) (since : List Noted) where
+    pub of_dmb : (pe : ℕ) (dsb : Barrier) → Changeless (item (Dmb pe dsb) covers tops position) since
     of_dmb pe dsb = record {
       no_write = λ q. refl;
       seen_same = λ p less. refl;
@@ -100,7 +107,7 @@ module _ (heading : Heading) (k : Known heading) (place : ℕ) where
       second_same = λ p q b less yet. refl;
     }
 
-    pub of_isb : (pe : ℕ) → Changeless (item (Isb pe) covers position) since
+    pub of_isb : (pe : ℕ) → Changeless (item (Isb pe) covers tops position) since
     of_isb pe = record {
       no_write = λ q. refl;
       seen_same = λ p less. refl;
@@ -113,8 +120,8 @@ module _ (heading : Heading) (k : Known heading) (place : ℕ) where
 
     -- a TLBI that adds nothing at any PE that it reaches
     pub of_tlbi : (pe : ℕ) (op : TlbiOp) (xt : ℕ) → ((p : ℕ) → p < heading.pes → reaches heading (Tlbi pe op xt) p ≡ true
-        → adds (covers place) (seen heading place p since) (half heading place p since) (cleansed heading Patterns place p since) ≡ false)
-        → Changeless (item (Tlbi pe op xt) covers position) since
+        → adds_to heading (covers place) p place since ≡ false)
+        → Changeless (item (Tlbi pe op xt) covers tops position) since
     of_tlbi pe op xt needless = record {
       no_write = λ q. refl;
       seen_same = λ p less. refl;
@@ -138,14 +145,14 @@ module _ (heading : Heading) (k : Known heading) (place : ℕ) where
         e = Tlbi pe op xt
 
         i : Issued Noted
-        i = record { tlbi = item (Tlbi pe op xt) covers position; before = since }
+        i = record { tlbi = item (Tlbi pe op xt) covers tops position; before = since }
 
     -- a DSB after which the same is seen, half and cleansed
     pub of_dsb : (pe : ℕ) (dsb : Barrier)
         → ((p : ℕ) → p < heading.pes → seen_after heading place p (Dsb pe dsb) since ≡ seen heading place p since)
         → ((p : ℕ) → p < heading.pes → half_after heading place p (Dsb pe dsb) since ≡ half heading place p since)
         → ((p : ℕ) → p < heading.pes → cleansed_after heading place p (Dsb pe dsb) since ≡ cleansed heading Patterns place p since)
-        → Changeless (item (Dsb pe dsb) covers position) since
+        → Changeless (item (Dsb pe dsb) covers tops position) since
     of_dsb pe dsb seen_same half_same cleansed_same = record {
       no_write = λ q. refl;
       seen_same = seen_same;

@@ -1,5 +1,6 @@
 -- What is kept beside a history, and asked of it, while the idle events of a log are found. No public contract cites
 -- these words. Source: project's own choice.
+use Rattle.std.specs.Option.{option_map_or}
 use Rattle.std.specs.Prelude.{◌≡◌, ℕ, Bool, true, false, not, ◌&&◌, ◌||◌, ◌==◌, List, Option, Some, None}
 use Rattle.std.specs.Prelude.{if◌then◌else◌}
 use Rattle.bbm_lemmas.specs.EveryPe.{every_pe}
@@ -10,7 +11,7 @@ use Rattle.bbm_tlbi_scope.specs.ScopeTags.{takes_whole_tag}
 use Rattle.bbm_rules.specs.declared.phase.Phase.{Phase}
 use Rattle.bbm_rules.specs.declared.phase.Phase.TheVariants.{Clean, Live}
 use Rattle.bbm_rules.specs.Claims.{Patterns}
-use Rattle.bbm_rules.specs.Held.{cleansed_everywhere, last_valid}
+use Rattle.bbm_rules.specs.Held.{ValidWrite, cleansed_everywhere, last_valid}
 use Rattle.bbm_rules.specs.Lists.{any}
 use Rattle.bbm_rules.specs.Notes.{Noted}
 use Rattle.bbm_rules.specs.Phases.{broken_phase}
@@ -20,11 +21,13 @@ use Rattle.bbm_rules.specs.Roots.{first_pages}
 use Rattle.bbm_rules.specs.Tags.{Reading, ever_read, itself, takes_tag}
 use Rattle.bbm_rules.specs.Values.{written_places}
 use Rattle.bbm_oracle_tags.specs.Watches.{is_cast}
+use Rattle.bbm_oracle_patterns.specs.Kept.{notes_for}
 use Rattle.bbm_oracle_patterns.specs.PlacePhases.{furthest}
+use Rattle.bbm_oracle_patterns.specs.declared.kept.Covering.{Covering}
 use Rattle.bbm_oracle_patterns.specs.declared.trace.Trace.{Trace}
 use Rattle.bbm_oracle_trees.specs.ByPatterns.{StandsByPatterns}
 use Rattle.bbm_alike.specs.SameTags.{takes_of}
-use Rattle.bbm_idle.specs.Idle.{adds, adds_since, is_needed}
+use Rattle.bbm_idle.specs.Idle.{adds, adds_since, adds_to, is_needed}
 use Rattle.bbm_idle.specs.SamePhase.{same_phase}
 use Rattle.bbm_oracle_patterns.specs.declared.search.TreePlace.{TreePlace}
 use Rattle.bbm_idle.specs.declared.find_phases.Phases.{Phases}
@@ -41,13 +44,18 @@ abbrev pub trace_adds : Cover → ℕ → Option Trace → Bool
 trace_adds cover p None = false
 trace_adds cover p (Some t) = adds cover (pe_in t.seen p) (pe_in t.half p) (pe_in t.cleansed p)
 
--- whether it adds something at a seat, a place with the kind and the level that it has in its tree
-abbrev pub place_adds : Heading → List Noted → (ℕ → Cover) → ℕ → TreePlace → Bool
-place_adds heading h cover p s = adds_since heading (cover s.place) p s.place (last_valid s.kind s.level s.place h)
+-- the same over the last valid write of the place, where each event covers it as far as is asked
+abbrev pub adds_for : Heading → Covering → Cover → ℕ → ℕ → Option ValidWrite → Bool
+adds_for heading covering cover p place found =
+    option_map_or (λ w. adds_to heading cover p place (notes_for covering w.since)) found false
 
-abbrev pub seat_adds : Heading → List Noted → (ℕ → Cover) → ℕ → Option TreePlace → Bool
-seat_adds heading h cover p None = false
-seat_adds heading h cover p (Some s) = place_adds heading h cover p s
+-- whether a TLBI with these notes adds something at a seat, a place with the kind and the level that it has in its tree
+abbrev pub place_adds : Heading → List Noted → Noted → ℕ → TreePlace → Bool
+place_adds heading h tlbi p s = adds_since heading tlbi p s.place (last_valid s.kind s.level s.place h)
+
+abbrev pub seat_adds : Heading → List Noted → Noted → ℕ → Option TreePlace → Bool
+seat_adds heading h tlbi p None = false
+seat_adds heading h tlbi p (Some s) = place_adds heading h tlbi p s
 
 -- ---- tags
 

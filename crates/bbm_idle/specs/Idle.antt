@@ -1,16 +1,17 @@
 -- Idle events: those that a log can do without, and still keep the rules. A history is newest first, so whether an
 -- event is idle goes by the events before it alone. Source: project's own choice.
 use Rattle.std.specs.Option.{option_map_or}
-use Rattle.std.specs.Prelude.{◌≡◌, ℕ, Bool, true, false, not, ◌&&◌, ◌||◌, ◌==◌, List, [], ◌∷◌, Option, if◌then◌else◌}
+use Rattle.std.specs.Prelude.{◌≡◌, ℕ, Bool, true, false, not, ◌&&◌, ◌||◌, ◌==◌, List, [], ◌∷◌, map, Option}
+use Rattle.std.specs.Prelude.{if◌then◌else◌}
 use Rattle.bbm_lemmas.specs.EveryPe.{every_pe}
 use Rattle.bbm_tlbi_scope.specs.declared.entry.Cover.{Cover}
 use Rattle.bbm_tlbi_scope.specs.declared.entry.Cover.TheVariants.{None as NoCover, Half, Second, Full}
 use Rattle.bbm_rules.specs.Claims.{Patterns}
 use Rattle.bbm_rules.specs.Cleansing.{cleansed, half, seen}
-use Rattle.bbm_rules.specs.Covers.{cover_at, noted}
-use Rattle.bbm_rules.specs.Held.{ValidWrite, last_valid}
+use Rattle.bbm_rules.specs.Covers.{note, noted}
+use Rattle.bbm_rules.specs.Held.{ValidWrite, empties_tables, last_valid}
 use Rattle.bbm_rules.specs.Lists.{any, every, some_pe}
-use Rattle.bbm_rules.specs.Notes.{Noted}
+use Rattle.bbm_rules.specs.Notes.{Noted, topped}
 use Rattle.bbm_rules.specs.Phases.{phase_of}
 use Rattle.bbm_rules.specs.Places.{page_of}
 use Rattle.bbm_rules.specs.Prelude.{Barrier, Heading, Event, Dsb, Dmb, Isb, Tlbi, Msr}
@@ -39,19 +40,25 @@ adds Second is_seen is_half is_cleansed = is_half && not is_cleansed
 adds NoCover is_seen is_half is_cleansed = false
 
 module _ (heading : Heading) where
-  -- whether a TLBI that covers the place so far adds something at p, over its last valid write
-  abbrev pub adds_since : Cover → ℕ → ℕ → Option ValidWrite → Bool
-  adds_since cover p place found = option_map_or (λ w. adds cover (seen heading place p w.since)
-      (half heading place p w.since) (cleansed heading Patterns place p w.since)) found false
+  -- whether a TLBI that covers the place so far adds something at p, where these events came after its last valid write
+  abbrev pub adds_to : Cover → ℕ → ℕ → List Noted → Bool
+  adds_to cover p place since =
+      adds cover (seen heading place p since) (half heading place p since) (cleansed heading Patterns place p since)
+
+  -- whether a TLBI with these notes adds something at p, over the last valid write of the place: by its cover, and from
+  -- version 5 on by its top cover, too
+  abbrev pub adds_since : Noted → ℕ → ℕ → Option ValidWrite → Bool
+  adds_since tlbi p place found = option_map_or (λ w. adds_to (tlbi.covers place) p place w.since
+      || (empties_tables heading.version && adds_to (tlbi.tops place) p place (map topped w.since))) found false
 
   -- the same of a place of a tree
-  abbrev pub adds_with : List Noted → Cover → ℕ → ℕ → Bool
-  adds_with h cover p place = option_map_or (λ n. adds_since cover p place (last_valid n.kind n.level place h))
+  abbrev pub adds_with : List Noted → Noted → ℕ → ℕ → Bool
+  adds_with h tlbi p place = option_map_or (λ n. adds_since tlbi p place (last_valid n.kind n.level place h))
       (node_of heading Patterns h (page_of place)) false
 
-  -- the same of a TLBI
+  -- the same of a TLBI that comes after these events
   abbrev pub adds_at : List Noted → Event → ℕ → ℕ → Bool
-  adds_at h e p place = adds_with h (cover_at heading Patterns h e place) p place
+  adds_at h e p place = adds_with h (note heading Patterns h e) p place
 
   -- Needed: a TLBI that at a PE which it reaches adds something at a place of a tree, or takes a whole tag that is kept
   -- there for the page of a declared root, or of one that was given up. A place that was never written holds nothing.

@@ -1,13 +1,13 @@
 -- Needed TLBIs and idle events once more, as sentences over all ways to split a history. `law_needed` and
 -- `law_idle_event` say that they say the same. A history is newest first, so in `newer ++ older` the events of `newer`
 -- came after those of `older`. Source: project's own choice.
-use Rattle.std.specs.Prelude.{◌≡◌, ℕ, ◌<◌, ◌⊎◌, true, List, ◌∷◌, ◌++◌, Some}
+use Rattle.std.specs.Prelude.{◌≡◌, ℕ, ◌<◌, ◌⊎◌, true, List, ◌∷◌, ◌++◌, map, Some}
 use Rattle.bbm_tlbi_scope.specs.declared.entry.Cover.{Cover}
 use Rattle.bbm_tlbi_scope.specs.declared.entry.Cover.TheVariants.{None as NoCover, Half, Second, Full}
 use Rattle.bbm_rules.specs.Claims.{Patterns}
-use Rattle.bbm_rules.specs.Covers.{cover_at, noted}
-use Rattle.bbm_rules.specs.Held.{ValidWrite}
-use Rattle.bbm_rules.specs.Notes.{Noted}
+use Rattle.bbm_rules.specs.Covers.{cover_at, noted, top_at}
+use Rattle.bbm_rules.specs.Held.{ValidWrite, empties_tables}
+use Rattle.bbm_rules.specs.Notes.{Noted, topped}
 use Rattle.bbm_rules.specs.PatternSentences.{Cleansed, IsHalf, IsLastValid, Seen}
 use Rattle.bbm_rules.specs.Phases.{phase_of}
 use Rattle.bbm_rules.specs.Places.{page_of}
@@ -37,13 +37,16 @@ module _ (heading : Heading) where
   TakesFurther NoCover place p since = ⊥
 
   -- Needed at p for a place: the place is one of a tree and had a valid write, and by what came since then the TLBI
-  -- takes the place further at p.
+  -- takes the place further at p; or, from version 5 on, by its top cover it does, with the top cover of each TLBI since
+  -- then in the place of its cover.
   pub record NeededForPlace (h : List Noted) (e : Event) (p place : ℕ) : Type 0 where
     pub node : Node
     pub in_tree : node_of heading Patterns h (page_of place) ≡ Some node
     pub write : ValidWrite
     pub last_write : IsLastValid node.kind node.level place h write
     pub further : TakesFurther (cover_at heading Patterns h e place) place p write.since
+        ⊎ ((empties_tables heading.version ≡ true)
+        × TakesFurther (top_at heading Patterns h e place) place p (map topped write.since))
 
   -- Needed at p for a tag: the tag is kept at p for a page, whose root holds it or was given up and left it, and the
   -- TLBI takes the whole tag.

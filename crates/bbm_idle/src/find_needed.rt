@@ -29,7 +29,7 @@ pub struct Effect<'a> {
 /// The PEs at which the newest event, a TLBI, adds something at one of the places, by what came before it.
 pub fn newest_adds(header: &Header, log: &[Kept], seats: &[TreePlace]) -> PeMask
     ensures { (n : Noted) (older : List Noted) → notes_of (reverse log.now) ≡ n ∷ older
-        → (p : ℕ) → pe_in result p ≡ any (spec.place_adds header.now older n.covers p) seats.now }
+        → (p : ℕ) → pe_in result p ≡ any (spec.place_adds header.now older n p) seats.now }
 {
     if log.is_empty() {
         PeMask::none()

@@ -1,7 +1,7 @@
 //! The places that were ever written, and at which PEs a TLBI adds something to what they have been through.
 //! Source: project's own choice.
 
-ghost use Rattle.std.specs.Prelude.{◌≡◌, ℕ, ◌||◌, List, ◌∷◌, reverse, IfOk, OnOk, Some};
+ghost use Rattle.std.specs.Prelude.{◌≡◌, ℕ, ◌&&◌, ◌||◌, List, ◌∷◌, length, reverse, IfOk, OnOk, Some};
 ghost use Rattle.bbm_events.specs.declared.event.Event.{Event as TheEvent};
 ghost use Rattle.bbm_events.specs.Heading.{Heading};
 ghost use Rattle.bbm_regimes.specs.PeMask.{pe_in};
@@ -11,16 +11,17 @@ ghost use Rattle.bbm_rules.specs.Held as holding;
 ghost use Rattle.bbm_rules.specs.Lists.{among, any, with_number};
 ghost use Rattle.bbm_rules.specs.Notes.{Noted};
 ghost use Rattle.bbm_rules.specs.Values as values;
-ghost use Rattle.bbm_oracle_patterns.specs.Kept.{cover_in, notes_of};
+ghost use Rattle.bbm_oracle_patterns.specs.Kept.{note_of, notes_of};
+ghost use Rattle.bbm_oracle_patterns.specs.declared.kept.Covering.TheVariants.{Top};
 ghost use Rattle.bbm_oracle_trees.specs.Past.{notes};
 ghost use Rattle.bbm_idle.specs.Finding as spec;
 ghost use Rattle.bbm_idle.specs.Idle as idle;
 
 use bbm_events::{Event, Header};
-use bbm_oracle_patterns::{Kept, Trace, TreePlace, last_valid, trace_of};
+use bbm_oracle_patterns::{Covering, Kept, Trace, TreePlace, last_valid, trace_for};
 use bbm_oracle_tags::AllPatterns;
 use bbm_oracle_trees::History;
-use bbm_regimes::{Kind, Level, NoMemory, PeMask, Place};
+use bbm_regimes::{NoMemory, PeMask, Place};
 use bbm_tlbi_scope::Cover;
 use std::alloc::Global;
 
@@ -57,23 +58,11 @@ pub fn add_written(places: &mut Vec<Place>, event: &Event) -> Result<(), NoMemor
     }
 }
 
-/// The trace of a place of this kind and level since its last valid write; None where there is no such write. The log
-/// is oldest first.
-fn trace_in(header: &Header, log: &[Kept], kind: Kind, level: Level, place: Place) -> Option<Trace>
-    ensures { (p : ℕ) (cover : Grade) → spec.trace_adds cover p result
-        ≡ idle.adds_since header.now cover p place (holding.last_valid kind level place (notes_of (reverse log.now))) }
-{
-    match last_valid(log, kind, level, place) {
-        Some(write) => Some(trace_of(header, &log[write.index + 1..], place)),
-        None => None,
-    }
-}
-
 /// The place with its kind and level; None where it is in no tree.
 fn seat_at(history: &History<AllPatterns>, place: Place) -> Option<TreePlace>
     requires { history.now.trust ≡ Patterns }
-    ensures { (p : ℕ) (cover : ℕ → Grade) → spec.seat_adds history.now.heading (notes history.now) cover p result
-        ≡ idle.adds_with history.now.heading (notes history.now) (cover place) p place }
+    ensures { (p : ℕ) (tlbi : Noted) → spec.seat_adds history.now.heading (notes history.now) tlbi p result
+        ≡ idle.adds_with history.now.heading (notes history.now) tlbi p place }
 {
     match history.node_of(place.page()) {
         Some(node) => Some(TreePlace {
@@ -87,9 +76,9 @@ fn seat_at(history: &History<AllPatterns>, place: Place) -> Option<TreePlace>
 
 /// Adds the seat, where there is one.
 fn add_seat(seats: &mut Vec<TreePlace>, found: Option<TreePlace>) -> Result<(), NoMemory>
-    ensures { OnOk result ((heading : Heading) (h : List Noted) (p : ℕ) (cover : ℕ → Grade)
-        → any (spec.place_adds heading h cover p) seats.new.items
-        ≡ (any (spec.place_adds heading h cover p) seats.old.items || spec.seat_adds heading h cover p found)) }
+    ensures { OnOk result ((heading : Heading) (h : List Noted) (p : ℕ) (tlbi : Noted)
+        → any (spec.place_adds heading h tlbi p) seats.new.items
+        ≡ (any (spec.place_adds heading h tlbi p) seats.old.items || spec.seat_adds heading h tlbi p found)) }
 {
     let Some(seat) = found else {
         return Ok(());
@@ -105,9 +94,9 @@ pub fn seats_of(
     places: &[Place],
 ) -> Result<Vec<TreePlace>, NoMemory>
     requires { history.now.trust ≡ Patterns }
-    ensures { IfOk result (λ seats. (p : ℕ) (cover : ℕ → Grade)
-        → any (spec.place_adds history.now.heading (notes history.now) cover p) seats.items
-        ≡ any (λ place. idle.adds_with history.now.heading (notes history.now) (cover place) p place) places.now) }
+    ensures { IfOk result (λ seats. (p : ℕ) (tlbi : Noted)
+        → any (spec.place_adds history.now.heading (notes history.now) tlbi p) seats.items
+        ≡ any (idle.adds_with history.now.heading (notes history.now) tlbi p) places.now) }
 {
     let mut seats = Vec::new(alloc);
     for place in places {
@@ -128,17 +117,36 @@ fn added(cover: Cover, trace: &Trace) -> PeMask
     }
 }
 
-/// The PEs at which a TLBI that comes after the log and covers the place so far adds something. Where it doesn't cover
-/// the place nothing is searched.
+/// The trace of a seat since its last valid write, where each event covers it as far as is asked; None where there is no
+/// such write. The log is oldest first.
+fn trace_in(header: &Header, log: &[Kept], seat: &TreePlace, covering: Covering) -> Option<Trace>
+    ensures { (p : ℕ) (cover : Grade) → spec.trace_adds cover p result
+        ≡ spec.adds_for header.now covering cover p seat.now.place
+        (holding.last_valid seat.now.kind seat.now.level seat.now.place (notes_of (reverse log.now))) }
+{
+    match last_valid(log, seat.kind, seat.level, seat.place) {
+        Some(write) => Some(trace_for(header, &log[write.index + 1..], seat.place, covering)),
+        None => None,
+    }
+}
+
+/// The PEs at which a TLBI that comes after the log and covers the seat so far adds something, where each event covers it
+/// as far as is asked. Where it doesn't cover the place nothing is searched.
 #[tactic(auto, using(crate::proofs::FindPlaces::adds_nothing))]
-fn added_at(header: &Header, log: &[Kept], cover: Cover, seat: &TreePlace) -> PeMask
-    ensures { (p : ℕ) → pe_in result p ≡ idle.adds_since header.now cover p seat.now.place
+fn added_for(
+    header: &Header,
+    log: &[Kept],
+    cover: Cover,
+    seat: &TreePlace,
+    covering: Covering,
+) -> PeMask
+    ensures { (p : ℕ) → pe_in result p ≡ spec.adds_for header.now covering cover p seat.now.place
         (holding.last_valid seat.now.kind seat.now.level seat.now.place (notes_of (reverse log.now))) }
 {
     match cover {
         Cover::None => PeMask::none(),
         Cover::Half | Cover::Second | Cover::Full => {
-            match trace_in(header, log, seat.kind, seat.level, seat.place) {
+            match trace_in(header, log, seat, covering) {
                 Some(trace) => added(cover, &trace),
                 None => PeMask::none(),
             }
@@ -146,14 +154,47 @@ fn added_at(header: &Header, log: &[Kept], cover: Cover, seat: &TreePlace) -> Pe
     }
 }
 
+/// Whether a table goes, too, where no entry ends in it any more and nothing is held below it: under no version yet.
+fn empties_tables(version: u8) -> bool
+    ensures { result ≡ holding.empties_tables version }
+{
+    false
+}
+
+/// The PEs at which a TLBI that comes after the log and has this top cover of the seat adds something by it: none where no
+/// table is emptied.
+fn added_by_top(header: &Header, log: &[Kept], top: Cover, seat: &TreePlace) -> PeMask
+    ensures { (p : ℕ) → pe_in result p ≡ (holding.empties_tables header.now.version
+        && spec.adds_for header.now Top top p seat.now.place
+        (holding.last_valid seat.now.kind seat.now.level seat.now.place (notes_of (reverse log.now)))) }
+{
+    if empties_tables(header.version) {
+        added_for(header, log, top, seat, Covering::Top)
+    } else {
+        PeMask::none()
+    }
+}
+
+/// The PEs at which the newest event, a TLBI that comes after the log, adds something at the seat, by its cover or by its
+/// top cover.
+fn added_at(header: &Header, log: &[Kept], newest: &Kept, seat: &TreePlace) -> PeMask
+    ensures { (p : ℕ) → pe_in result p ≡ spec.place_adds header.now (notes_of (reverse log.now))
+        (note_of (length log.now) newest.now) p seat.now }
+{
+    let cover = newest.cover_for(Covering::Whole, seat.place);
+    let top = newest.cover_for(Covering::Top, seat.place);
+    let whole = added_for(header, log, cover, seat, Covering::Whole);
+    whole.or(added_by_top(header, log, top, seat))
+}
+
 /// The PEs at which the newest event, a TLBI that comes after the log, adds something at one of the places.
 pub fn added_by(header: &Header, log: &[Kept], newest: &Kept, seats: &[TreePlace]) -> PeMask
-    ensures { (p : ℕ) → pe_in result p
-        ≡ any (spec.place_adds header.now (notes_of (reverse log.now)) (cover_in newest.now.covers.items) p) seats.now }
+    ensures { (p : ℕ) → pe_in result p ≡ any (spec.place_adds header.now (notes_of (reverse log.now))
+        (note_of (length log.now) newest.now) p) seats.now }
 {
     let mut pes = PeMask::none();
     for seat in seats {
-        pes = pes.or(added_at(header, log, newest.cover(seat.place), seat));
+        pes = pes.or(added_at(header, log, newest, seat));
     }
     pes
 }
