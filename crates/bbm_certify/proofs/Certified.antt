@@ -11,13 +11,15 @@ use Rattle.std.proofs.lemmas.Bool.{cases_Bool}
 use Rattle.bbm_histories.proofs.Induction.{kept_before}
 use Rattle.bbm_histories.proofs.PatternLemmas.{cleansed_stays}
 use Rattle.bbm_certify.proofs.DuePlaces.{due_now}
+use Rattle.bbm_certify.proofs.Unswept.{unswept_stays}
+use Rattle.bbm_rules.specs.Covers.{top_at}
 use Rattle.bbm_rules.specs.Tree.{tree}
 use Rattle.bbm_alike.specs.Alike.{Alike, TakesAlike}
 use Rattle.bbm_certify.proofs.PlaceClaims.{forgotten, least_claim, listed_claim}
 use Rattle.bbm_certify.proofs.TagClaims as tags
 
-abbrev marked : Event → (ℕ → Cover) → ℕ → Noted
-marked e covers position = record { event = e; covers = covers; position = position }
+abbrev marked : Event → (ℕ → Cover) → (ℕ → Cover) → ℕ → Noted
+marked e covers tops position = record { event = e; covers = covers; tops = tops; position = position }
 
 abbrev is_dsb : Event → Bool
 is_dsb (Dsb q dsb) = true
@@ -35,12 +37,17 @@ module _ (heading : Heading) (known : Known heading) (cs : List Claim) where
     same_note : (e : Event) → note heading Patterns (noted heading Patterns h) e
         ≡ note heading (Listed cs) (noted heading (Listed cs) h) e
     same_note e =
-        let same_covers : cover_at heading Patterns (noted heading Patterns h) e
-        ≡ cover_at heading (Listed cs) (noted heading (Listed cs) h) e =
-        fun_ext (λ place. known.covers_alike (Listed cs) h h e place so_far.alike) in
-        ap (λ (f : ℕ → Cover). marked e f (suc (length (noted heading Patterns h)))) same_covers
-        ∙ ap (λ (ns : List Noted). marked e (cover_at heading (Listed cs) (noted heading (Listed cs) h) e) (suc (length ns)))
-        so_far.notes
+        let alike = known.covers_alike (Listed cs) in
+        let covers : ℕ → Cover = cover_at heading (Listed cs) (noted heading (Listed cs) h) e in
+        let tops : ℕ → Cover = top_at heading (Listed cs) (noted heading (Listed cs) h) e in
+        let same_covers : cover_at heading Patterns (noted heading Patterns h) e ≡ covers =
+        fun_ext (λ place. alike.covers h h e place so_far.alike) in
+        let same_tops : top_at heading Patterns (noted heading Patterns h) e ≡ tops =
+        fun_ext (λ place. alike.tops h h e place so_far.alike) in
+        ap (λ (f : ℕ → Cover). marked e f (top_at heading Patterns (noted heading Patterns h) e) (suc (length (noted heading Patterns h))))
+        same_covers
+        ∙ (ap (λ (f : ℕ → Cover). marked e covers f (suc (length (noted heading Patterns h)))) same_tops
+        ∙ ap (λ (ns : List Noted). marked e covers tops (suc (length ns))) so_far.notes)
 
     same_notes : (e : Event) → noted heading Patterns (e ∷ h) ≡ noted heading (Listed cs) (e ∷ h)
     same_notes e =
@@ -104,7 +111,12 @@ module _ (heading : Heading) (known : Known heading) (cs : List Claim) where
             (tags.forgotten heading known p tag q dsb h cs)
 
       takes_dsb : TakesAlike heading Patterns (Listed cs) h h (Dsb q dsb)
-      takes_dsb = record { cleanses = same_cleansed; takes = same_lost }
+      takes_dsb = record {
+        cleanses = λ n place p w w' there free inside holds is is' below.
+            same_cleansed n place p w w' there (unswept_stays heading known h q dsb keeps_dsb refl n there free) inside holds is is' below;
+        tops = λ late. absurd (true≢false (sym late));
+        takes = same_lost;
+      }
 
     -- ---- one event
 

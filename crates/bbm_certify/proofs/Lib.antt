@@ -3,6 +3,7 @@ pub mod OneClaim
 pub mod LeastFound
 pub mod PlaceClaims
 pub mod TagClaims
+pub mod Unswept
 pub mod Certified
 pub mod OneCertificate
 pub mod CasesLeast

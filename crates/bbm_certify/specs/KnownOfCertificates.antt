@@ -7,7 +7,7 @@ use Rattle.bbm_rules.specs.BrokenLaws.{NotesKeepEvents}
 use Rattle.bbm_rules.specs.EventLaws.{AnsweredBySentence, TestsAreExact}
 use Rattle.bbm_rules.specs.HeldLaws.{CleansedBySentence, LastValidBySentence}
 use Rattle.bbm_rules.specs.TagLaws.{TagKeptBySentence}
-use Rattle.bbm_rules.specs.TreeLaws.{TreeBySentence}
+use Rattle.bbm_rules.specs.TreeLaws.{PagesOfRoots, TreeBySentence}
 use Rattle.bbm_histories.specs.ContentLaws.{FreshStays}
 use Rattle.bbm_histories.specs.HolderLaws.{TagClaimsAfter, TagsAfter, TagsOfRoots}
 use Rattle.bbm_histories.specs.PatternLaws.{PatternsAfter}
@@ -30,6 +30,7 @@ pub record Known (heading : Heading) : Type 0 where
   pub one_node : SingleNode heading Patterns
   pub one_position : OnePosition heading Patterns
   pub pattern_steps : PatternsAfter heading
+  pub root_pages : PagesOfRoots heading
   pub tag_claim_steps : TagClaimsAfter heading
   pub tag_kept : TagKeptBySentence heading Patterns
   pub tag_steps : TagsAfter heading

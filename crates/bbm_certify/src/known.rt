@@ -13,7 +13,7 @@ use bbm_histories::{
 };
 use bbm_rules::{
     law_answered, law_cleansed, law_equality_tests, law_last_valid, law_notes_keep_the_events,
-    law_tag_kept, law_tree,
+    law_root_pages, law_tag_kept, law_tree,
 };
 
 /// The laws that the proofs here stand on.
@@ -34,6 +34,7 @@ pub(crate) fn known()
     law_one_position();
     law_pattern_steps();
     law_proper();
+    law_root_pages();
     law_tag_claim_steps();
     law_tag_kept();
     law_tag_steps();

@@ -40,7 +40,7 @@ above_stays heading trust h (place ∷ places) n m d a c =
     (contains_more n.above (record { place = place; level = n.level }) a c)
 
 -- the places of a path hold what they do
-held_above : (heading : Heading) (trust : Trust) (x : List Noted) (places : List ℕ) (n m : Node) → Down heading trust x n places m
+pub held_above : (heading : Heading) (trust : Trust) (x : List Noted) (places : List ℕ) (n m : Node) → Down heading trust x n places m
     → StillHeld heading trust x n → StillHeld heading trust x m
 held_above heading trust x [] n m d s = subst (λ (y : Node). StillHeld heading trust x y) d s
 held_above heading trust x (place ∷ places) n m d s =

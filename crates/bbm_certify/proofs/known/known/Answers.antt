@@ -17,6 +17,7 @@ returns c heading ok = record {
   one_node = c.law_one_node.ensures heading Patterns;
   one_position = c.law_one_position.ensures heading Patterns;
   pattern_steps = c.law_pattern_steps.ensures heading;
+  root_pages = c.law_root_pages.ensures heading;
   tag_claim_steps = c.law_tag_claim_steps.ensures heading;
   tag_kept = c.law_tag_kept.ensures heading Patterns;
   tag_steps = c.law_tag_steps.ensures heading;
