@@ -2,13 +2,11 @@
 use Rattle.bbm_idle.proofs.Common.{Patterns, Alike, adds_at, adds_since, adds_to, answers_needed, is_needed}
 use Rattle.bbm_idle.proofs.Common.{is_needed_at, keeps_phases, takes_of, wrote_register, Known}
 use Rattle.bbm_rules.proofs.Common.{◌≡◌, ℕ, ◌<◌, Bool, true, false, not, ◌&&◌, ◌||◌, ◌==◌, List, [], ◌∷◌, map, Option}
-use Rattle.bbm_rules.proofs.Common.{Some, None}
-use Rattle.bbm_rules.proofs.Common.{find, is_none, is_some, Contains, refl, sym, ◌∙◌, ap, subst, true≢false, and_parts}
-use Rattle.bbm_rules.proofs.Common.{false_from_ne_true, not-true, pe_finds, proved, If, Is, none_of, keeps, changes}
-use Rattle.bbm_rules.proofs.Common.{note, noted, ValidWrite, last_valid, any, Noted, events_of}
-use Rattle.bbm_rules.proofs.Common.{is_fresh, may_be_fresh, page_of, Barrier, Heading, Event, Init, Dsb, Dmb, Isb, Tlbi}
-use Rattle.bbm_rules.proofs.Common.{reaches, unanswered, first_pages, itself, Node, held_at, in_tree}
-use Rattle.bbm_rules.proofs.Common.{node_of, written_places}
+use Rattle.bbm_rules.proofs.Common.{Some, None, find, is_none, is_some, Contains, refl, sym, ◌∙◌, ap, subst, true≢false}
+use Rattle.bbm_rules.proofs.Common.{and_parts, false_from_ne_true, not-true, pe_finds, proved, If, Is, none_of, keeps}
+use Rattle.bbm_rules.proofs.Common.{changes, note, noted, ValidWrite, last_valid, any, Noted, events_of, is_fresh}
+use Rattle.bbm_rules.proofs.Common.{may_be_fresh, page_of, Barrier, Heading, Event, Init, Dsb, Dmb, Isb, Tlbi, reaches}
+use Rattle.bbm_rules.proofs.Common.{unanswered, first_pages, itself, Node, held_at, in_tree, node_of, written_places}
 use Rattle.bbm_rules.specs.Broken.{broken}
 use Rattle.bbm_lemmas.proofs.Bools.{first_none, second_false, second_none}
 use Rattle.bbm_rules.specs.Held.{empties_tables}

@@ -3,12 +3,11 @@ pub use Rattle.std.specs.Prelude.{Bool, List, Option, Some, [], false, refl, tru
 pub use Rattle.bbm_alike.specs.Alike.{Alike, SamePatterns}
 pub use Rattle.bbm_events.specs.Heading.{Heading}
 pub use Rattle.bbm_histories.specs.HistorySteps.{answered_by, half_after, half_waits, is_tlbi}
-pub use Rattle.bbm_idle.specs.Finding.{AreTaken, IsSearch, is_kept, is_kept_by, is_taken, needed_by, place_adds}
-pub use Rattle.bbm_idle.specs.Finding.{waits, waits_after}
-pub use Rattle.bbm_idle.specs.Idle.{adds, adds_at, adds_since, adds_to, adds_with, answers_needed, idle_marks, is_needed}
-pub use Rattle.bbm_idle.specs.Idle.{is_needed_at, keeps_phases}
+pub use Rattle.bbm_idle.specs.Finding.{AreTaken, IsSearch, is_kept, is_kept_by, is_taken, needed_by, place_adds, waits}
+pub use Rattle.bbm_idle.specs.Finding.{waits_after}
+pub use Rattle.bbm_idle.specs.Idle.{adds, adds_at, adds_since, adds_to, adds_with, answers_needed, idle_marks}
+pub use Rattle.bbm_idle.specs.Idle.{is_needed, is_needed_at, keeps_phases, without, without_idle, wrote_register}
 pub use Rattle.bbm_alike.specs.SameTags.{takes_of}
-pub use Rattle.bbm_idle.specs.Idle.{without, without_idle, wrote_register}
 pub use Rattle.bbm_idle.specs.KnownOfIdle.{Known}
 pub use Rattle.bbm_idle.specs.SamePhase.{same_phase}
 pub use Rattle.bbm_oracle_patterns.specs.declared.search.TreePlace.{TreePlace}

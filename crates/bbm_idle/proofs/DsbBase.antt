@@ -4,10 +4,10 @@ use Rattle.bbm_idle.proofs.Common.{Phase, Clean, Live, Patterns, Kind, SamePatte
 use Rattle.bbm_idle.proofs.Common.{Known, same_phase}
 use Rattle.bbm_rules.proofs.Common.{◌≡◌, ℕ, ◌<◌, Bool, true, false, cond, not, List, ◌∷◌, map, Option, Some, None}
 use Rattle.bbm_rules.proofs.Common.{option_and_then, is_none, Contains, refl, sym, ◌∙◌, ap, subst, inl, inr, and_parts}
-use Rattle.bbm_rules.proofs.Common.{not-true, In, is_valid, every_pe, keeps, cleansed, half, seen, note}
-use Rattle.bbm_rules.proofs.Common.{noted, ValidWrite, held, last_valid, any, Noted, broken_phase}
-use Rattle.bbm_rules.proofs.Common.{page_of, Barrier, Heading, Event, Write, Dsb, unanswered, itself, Node, held_at}
-use Rattle.bbm_rules.proofs.Common.{node_of, value_of, written_places}
+use Rattle.bbm_rules.proofs.Common.{not-true, In, is_valid, every_pe, keeps, cleansed, half, seen, note, noted}
+use Rattle.bbm_rules.proofs.Common.{ValidWrite, held, last_valid, any, Noted, broken_phase, page_of, Barrier, Heading}
+use Rattle.bbm_rules.proofs.Common.{Event, Write, Dsb, unanswered, itself, Node, held_at, node_of, value_of}
+use Rattle.bbm_rules.proofs.Common.{written_places}
 use Rattle.bbm_lemmas.proofs.Every.{every_at}
 use Rattle.bbm_rules.proofs.Emptied.{seen_topped}
 use Rattle.bbm_rules.specs.Broken.{broken}
@@ -20,7 +20,7 @@ use Rattle.bbm_histories.specs.TreeChanges.{HeldBy, HeldChange}
 use Rattle.bbm_histories.specs.TreeSteps.{holds_above, node_where}
 use Rattle.bbm_idle.specs.Idle.{is_idle}
 use Rattle.bbm_lemmas.proofs.Elements.{every_in}
-use Rattle.bbm_idle.proofs.Needed.{above_stays, half_stays, half_top_stays, written_at}
+use Rattle.bbm_idle.proofs.Needed.{cleansed_top_stays, half_stays, half_top_stays, written_at}
 use Rattle.bbm_idle.proofs.Phases.{SameMarks, never_clean, same_marks}
 use Rattle.bbm_idle.proofs.Since.{Untouched, Unwritten, untouched, unwritten_on}
 use Rattle.bbm_idle.proofs.Waits.{PatternsAlike, changeless, of_dsb}
@@ -184,7 +184,7 @@ module _ (heading : Heading) where
           (λ p less. sym (k.pattern_steps.seen place p (topped item) (map topped w.since))
           ∙ (seen_topped heading place p (item ∷ w.since) ∙ (seen_still p less ∙ sym (seen_topped heading place p w.since))))
           (λ p less. half_top_stays heading k h kept_before n place value w by p less pe dsb answers_none late)
-          (λ p less. above_stays heading k h kept_before n place value w by p less pe dsb answers_none late))
+          (λ p less. cleansed_top_stays heading k h kept_before n place value w by p less pe dsb answers_none late))
 
       pub same_patterns : PatternsAlike heading k place (item ∷ w.since) w.since
       same_patterns = (

@@ -281,7 +281,7 @@ module _ (heading : Heading) (k : Known heading) (h : List Event) (kept : keeps 
       pub half_top_stays : half_after heading place p (Dsb q dsb) tops ≡ half heading place p tops
       half_top_stays = unless (answered_by dsb (λ b. half_waits heading place p q b tops)) (half heading place p tops) none_half
 
-      pub above_stays : cleansed_after heading place p (Dsb q dsb) tops ≡ cleansed heading Patterns place p tops
-      above_stays = unless (answered_by dsb (λ b. full_waits heading place p q b tops) || answered_by dsb (λ b. second_waits heading place p q b tops))
+      pub cleansed_top_stays : cleansed_after heading place p (Dsb q dsb) tops ≡ cleansed heading Patterns place p tops
+      cleansed_top_stays = unless (answered_by dsb (λ b. full_waits heading place p q b tops) || answered_by dsb (λ b. second_waits heading place p q b tops))
           (cleansed heading Patterns place p tops)
           (λ yet. ap (λ (x : Bool). x || answered_by dsb (λ b. second_waits heading place p q b tops)) (none_full yet) ∙ none_second yet)

@@ -1,11 +1,11 @@
 use Rattle.bbm_idle.proofs.Common.{note_of, notes_of}
-use Rattle.bbm_rules.proofs.Common.{ℕ, Bool, ◌||◌, Option, length, reverse, sym, ap, ◌∙◌, Cover, ValidWrite, last_valid}
+use Rattle.bbm_rules.proofs.Common.{Bool, ◌||◌, Option, length, reverse, sym, ap, ◌∙◌, Cover, ValidWrite, last_valid}
+use Rattle.bbm_rules.proofs.Common.{◌&&◌}
 use Rattle.bbm_regimes.specs.PeMask.{pe_in}
 use Rattle.bbm_oracle_patterns.specs.Kept.{cover_in}
 use Rattle.bbm_oracle_patterns.specs.declared.kept.Covering.TheVariants.{Whole, Top}
 use Rattle.bbm_idle.specs.Finding.{adds_for}
 use Rattle.bbm_rules.specs.Held.{empties_tables}
-use Rattle.bbm_rules.proofs.Common.{◌&&◌}
 use Rattle.bbm_idle.proofs.FindPlaces.{adds_by_both}
 use Rattle.bbm_idle.proofs.find_places.added_at.Goals as goal
 

@@ -1,5 +1,5 @@
 use Rattle.bbm_idle.proofs.Common.{notes_of, notes, needed_by, place_adds, is_needed, TreePlace}
-use Rattle.bbm_rules.proofs.Common.{◌≡◌, ℕ, Bool, List, reverse, sym, ap, ◌∙◌, IfOk-weaker, note, any, Noted}
+use Rattle.bbm_rules.proofs.Common.{◌≡◌, Bool, List, reverse, sym, ap, ◌∙◌, IfOk-weaker, note, any, Noted}
 use Rattle.bbm_rules.proofs.Common.{some_pe, Heading}
 use Rattle.bbm_regimes.specs.PeMask.{pe_in}
 use Rattle.bbm_idle.proofs.FindPlaces.{adds_stand, needed_is}
