@@ -1,3 +1,6 @@
+//! The theorem of this crate is `law_alike_judges`: every event is judged alike after two alike histories, and an event
+//! keeps them alike where it takes away alike (`law_alike_step`).
+//!
 //! Two histories that no rule tells apart, each read by what it trusts. No code but empty bodies.
 #![tactic(auto)]
 

@@ -1,3 +1,6 @@
+//! The theorems of this crate are the contracts of `publishes_to` and `answers`: each option publishes to, and answers,
+//! what the table of the architecture says.
+//!
 //! DSB and DMB options: to which PEs a DSB publishes earlier writes, and which TLBIs it completes.
 #![tactic(auto)]
 

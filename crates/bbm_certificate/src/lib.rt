@@ -1,3 +1,5 @@
+//! The theorem of this crate is `law_read_whole`: a text that was read whole is a log of its header, within the limits.
+//!
 //! A log and right behind it its certificate, line by line: which events and claims they are, and what the claims alone
 //! make of the log.
 #![tactic(auto)]

@@ -1,3 +1,6 @@
+//! The theorem of this crate is `law_one_certificate`: what `make` writes is the only certificate of a log that keeps
+//! the rules, and by it alone the log keeps them (`law_certificate_is_verified`).
+//!
 //! Certificates of logs that keep the rules: the claims by which alone they keep them.
 #![tactic(auto)]
 

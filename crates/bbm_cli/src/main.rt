@@ -1,3 +1,5 @@
+//! The theorem of this crate is that `main` is safe and ends.
+//!
 //! The program: it gathers its words, and does what they ask for, from standard input to standard output.
 #![tactic(auto)]
 

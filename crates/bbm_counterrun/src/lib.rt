@@ -1,3 +1,6 @@
+//! The theorem of this crate is `law_rule_is_exact`: where a PE stands open to a place, a refusal there by break-
+//! before-make is a real danger.
+//!
 //! Runs of the machine of TLBs that end in a conflict at a write which the rule of break-before-make refuses.
 #![tactic(auto)]
 

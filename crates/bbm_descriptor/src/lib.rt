@@ -1,3 +1,6 @@
+//! The theorem of this crate is `law_need`: a write needs break-before-make exactly where both values are valid and
+//! their cores differ.
+//!
 //! Descriptors: what a value of a translation table means at a kind and a level, its core, and when a
 //! write over it needs break-before-make.
 #![tactic(auto)]

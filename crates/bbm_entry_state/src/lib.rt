@@ -1,3 +1,6 @@
+//! The theorem of this crate is `law_steps`: after any list of steps the masks of a place say what the patterns of
+//! break-before-make say of the steps.
+//!
 //! The small automaton of one place of a translation table: how far the core that it held last is out of the
 //! TLBs of each PE.
 //!

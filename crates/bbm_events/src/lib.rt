@@ -1,3 +1,5 @@
+//! The theorem of this crate is `law_one_line`: no line but the one that is written of an item is read as it.
+//!
 //! A log's header, its events, and the grammar that leads from a line to its item and back.
 #![tactic(auto)]
 

@@ -1,3 +1,5 @@
+//! The theorem of this crate is `law_gen`: each generated log, of any number of events, keeps the rules.
+//!
 //! Generated logs of any length, event by event, without memory.
 #![tactic(auto)]
 

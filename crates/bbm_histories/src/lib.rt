@@ -1,3 +1,6 @@
+//! The theorem of this crate is `law_held_changes`: what a place of a tree holds changes only by a valid write, and by
+//! a DSB, to nothing.
+//!
 //! Laws of histories: what is known of every log that keeps the rules, over the definitions alone.
 #![tactic(auto)]
 

@@ -1,3 +1,5 @@
+//! The theorem of this crate is `law_idle`: a log that keeps the rules keeps them without its idle events, all or any.
+//!
 //! The events that a log can do without.
 #![tactic(auto)]
 

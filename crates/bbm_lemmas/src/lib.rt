@@ -1,3 +1,6 @@
+//! The theorem of this crate is `law_elements`: the elements of a list by recursion are those that stand at a number
+//! below its length.
+//!
 //! The elements of lists, Booleans, options, lists of numbers, and tests of some or every PE, for proofs. The crate has
 //! no code but an empty body: crates above cite the lemmas of its `proofs`.
 #![tactic(auto)]

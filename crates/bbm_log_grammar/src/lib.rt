@@ -1,3 +1,6 @@
+//! The theorems of this crate are the contracts of `read_line` and `append_event`: they read and write what the grammar
+//! says, and a refused line has its cause.
+//!
 //! Reads and writes the lines of a log by its grammar.
 #![tactic(auto)]
 

@@ -1,3 +1,6 @@
+//! The theorems of this crate are the contracts of `held` and `phase_in`: a search of kept events answers what the
+//! definitions of break-before-make say.
+//!
 //! What a place of a kind and a level has been through, by search of the events that the oracle keeps.
 //!
 //! A log is a slice of kept events, oldest first: each event, and with a TLBI how far it covered each place at its

@@ -1,3 +1,6 @@
+//! The theorems of this crate are the contracts of its questions: each answers what the definition of its name says of
+//! the events.
+//!
 //! The questions that the oracle asks of the events that it took, without their notes and without trees. Events are
 //! given oldest first, and each answer is what one definition of the rules says of them. A definition sees a history
 //! newest first, so the contracts speak of the events reversed. Whatever makes a list may want memory, and says so.

@@ -1,3 +1,6 @@
+//! The theorem of this crate is the contract of `History`: its trees are those that the definitions make of the events
+//! taken.
+//!
 //! The trees of translation tables that a list of events makes, and what is asked of them, by a search of the events.
 #![tactic(auto)]
 

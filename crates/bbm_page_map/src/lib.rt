@@ -1,3 +1,5 @@
+//! The theorem of this crate is the contract of `PageNumbers`: each page gets one number, and is found by it.
+//!
 //! Numbers of pages, and values by them.
 //!
 //! `PageNumbers` gives each page a number once, from 0 on, in the order in which pages come. Its look-ups take the same

@@ -1,3 +1,6 @@
+//! The theorem of this crate is the contract of `PlaceMap`: each call changes the values, marks and pendings of the
+//! places that it names, and of no others.
+//!
 //! A total map from places of translation tables to their values, and of the broken ones among them to their marks and
 //! to what waits for the answers of each issuer's TLBIs.
 //!

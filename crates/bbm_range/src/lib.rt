@@ -1,3 +1,6 @@
+//! The theorem of this crate is the contract of `pages`: the pages that an operand names are those of the
+//! architecture's formula.
+//!
 //! The operand of a TLBI for a range of pages: which pages it names, and its level hint.
 //! Source: project's own choice, where no other is named.
 #![tactic(auto)]

@@ -1,3 +1,5 @@
+//! The theorem of this crate is `law_every_pe`: a test of every PE below a count is one of each.
+//!
 //! The small types that every other crate speaks of: processing elements and sets of them, pages, places and
 //! levels of translation tables, translation regimes, registers, tags, and intervals of input pages.
 #![tactic(auto)]

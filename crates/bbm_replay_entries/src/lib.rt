@@ -1,3 +1,6 @@
+//! The theorem of this crate is `law_entry_dsb`: a DSB takes a state that stands for a history to one that stands for
+//! the history with it, as each other event does by a law of its own.
+//!
 //! Laws that tie the state of one place, as `bbm_entry_state` keeps it, to the definitions of the rules over a history.
 //! A checker that keeps no history cites them at each event. No code but empty bodies.
 #![tactic(auto)]

@@ -1,3 +1,6 @@
+//! The theorem of this crate is `law_judging`: what a judge of the paths through fresh pages finds is what the rules on
+//! attached pages say.
+//!
 //! Laws that tie what a checker without a history knows of trees to the definitions over a history.
 #![tactic(auto)]
 

@@ -1,3 +1,6 @@
+//! The theorem of this crate is the contract of `verdict_text` and of its kin: each line is the one that the
+//! definitions name, byte for byte.
+//!
 //! The texts that the program prints: the line of a verdict, of a phase, of a walk, of an idle event and of a log with
 //! a certificate; and what `explain` and `walk` say behind the line of the verdict.
 #![tactic(auto)]

@@ -1,3 +1,6 @@
+//! The theorem of this crate is the contract of `Roots`: roots, registers, tags, VMIDs and locks are those of every
+//! history that it stands for.
+//!
 //! The roots of translation tables of a log, the register values that may still be in use, the tags that each root
 //! holds, and the locks: each event is judged, and then taken.
 //!

@@ -1,3 +1,6 @@
+//! The theorem of this crate is `law_first_line_decides`: the verdict of a log is that of its first bad line; and
+//! `law_each_rule` says each rule in a sentence of its own.
+//!
 //! The rules of table maintenance as definitions over a log's history, and what every checker promises.
 #![tactic(auto)]
 

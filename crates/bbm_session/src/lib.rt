@@ -1,3 +1,6 @@
+//! The theorem of this crate is the contract of `run`, with the headline: `check` accepts exactly if every event keeps
+//! the written rules, and an accepted log is safe.
+//!
 //! The top call: a log is read from a source and judged, and the verdict is written to a sink, with what a command says
 //! behind it; or a run is read and followed; or a log is judged by its certificate.
 #![tactic(auto)]

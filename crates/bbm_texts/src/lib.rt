@@ -1,3 +1,6 @@
+//! The theorem of this crate is the contract of `report` and of its kin: what is written is the text that the
+//! definitions name, and the status is its own.
+//!
 //! The texts of the program: what a command says of what was decided on a log, and what it shows of the events; the
 //! lines on a run and on a log with its certificate; generated logs and self-tests; the usage line. Each call writes
 //! one text, whole or up to a write that failed, and answers the status with which the program ends.

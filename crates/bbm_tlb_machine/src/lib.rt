@@ -1,3 +1,5 @@
+//! The theorem of this crate is `law_safe`: every log that keeps the rules is safe in each run of the machine.
+//!
 //! What the TLBs of the logged PEs may do while a log is taken, and the runs that lead to a conflict.
 #![tactic(auto)]
 

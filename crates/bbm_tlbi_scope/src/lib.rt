@@ -1,3 +1,6 @@
+//! The theorem of this crate is `law_cover_takes`: a TLBI that covers a place in full takes each entry that was read
+//! through it.
+//!
 //! TLBI operations: what each decodes to, which TLB entries it takes, and which places it covers.
 #![tactic(auto)]
 

@@ -1,3 +1,5 @@
+//! The theorem of this crate is the contract of `TreeIndex`: what is in the trees, fresh or null after each call.
+//!
 //! The trees of translation tables of a log: what each page is used for, and where it hangs. It stands beside a
 //! `PlaceMap`, which keeps the values of the places and which of them are broken.
 //!

@@ -1,3 +1,5 @@
+//! The theorem of this crate is the contract of `Unmapped`: a page is free where no held leaf of stage 2 maps it.
+//!
 //! Which pages no leaf of stage 2 maps that a place of a tree holds, and where the outputs of the leaves of each page
 //! of a tree lie: what `check` keeps of the pages that a guest may reach. It stands beside a `PlaceMap` and a
 //! `TreeIndex`, has each page by the number that the map gave it, and takes memory for a page that is tracked alone.

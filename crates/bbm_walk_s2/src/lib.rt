@@ -1,3 +1,6 @@
+//! The theorem of this crate is the contract of `walk`: it finds the leaf of the listing of the tables that holds the
+//! address, if there is one.
+//!
 //! Walks of stage 2 translation tables, whose roots may have joined pages.
 //!
 //! It serves alone: whoever has the values of a table's places, as `Pairs` or by a `Memory` of one's own, asks `walk`
