@@ -106,6 +106,57 @@ pub tlbi_before_publication : judged (
 unfolding judged
 tlbi_before_publication = refl
 
+-- A non-shareable DSB doesn't answer a broadcast TLBI.
+pub nsh_answers_no_broadcast : judged (
+    "bbmlog 1 hyp 2 1 1 1"
+    ∷ "init 0 0x40000000"
+    ∷ "root 0 el2 - 0x40000000"
+    ∷ "w 0 0x40000008 0x80000701"
+    ∷ "w 0 0x40000008 0x0"
+    ∷ "dsb 0 ishst"
+    ∷ "tlbi 0 vae2is 0x40000"
+    ∷ "dsb 0 nsh"
+    ∷ "w 0 0x40000008 0xc0000701"
+    ∷ "end 8"
+    ∷ []) ≡ codes "refused line 9 rule 4 break-before-make at 0x40000008\n"
+unfolding judged
+nsh_answers_no_broadcast = refl
+
+-- Where PEs may share TLB entries a local flush covers nothing.
+pub cnp_local_flush_is_refused : judged (
+    "bbmlog 2 hyp 2 1 1 1 cnp"
+    ∷ "init 0 0x40000000"
+    ∷ "root 0 el2 - 0x40000000"
+    ∷ "w 0 0x40000008 0x80000701"
+    ∷ "dsb 0 ish"
+    ∷ "w 0 0x40000008 0x0"
+    ∷ "dsb 0 ishst"
+    ∷ "tlbi 0 alle2"
+    ∷ "dsb 0 nsh"
+    ∷ "tlbi 1 alle2"
+    ∷ "dsb 1 nsh"
+    ∷ "w 0 0x40000008 0xc0000701"
+    ∷ "end 11"
+    ∷ []) ≡ codes "refused line 12 rule 4 break-before-make at 0x40000008\n"
+unfolding judged
+cnp_local_flush_is_refused = refl
+
+-- Where PEs may share TLB entries a DSB of the non-shareable domain publishes nothing, not even to its own PE.
+pub cnp_local_publication_is_refused : judged (
+    "bbmlog 2 hyp 1 1 1 1 cnp"
+    ∷ "init 0 0x40000000"
+    ∷ "root 0 el2 - 0x40000000"
+    ∷ "w 0 0x40000008 0x80000701"
+    ∷ "w 0 0x40000008 0x0"
+    ∷ "dsb 0 nshst"
+    ∷ "tlbi 0 alle2is"
+    ∷ "dsb 0 ish"
+    ∷ "w 0 0x40000008 0xc0000701"
+    ∷ "end 8"
+    ∷ []) ≡ codes "refused line 9 rule 4 break-before-make at 0x40000008\n"
+unfolding judged
+cnp_local_publication_is_refused = refl
+
 -- A block is cleared, the clear is published, the block is flushed by address and the flush is answered.
 pub el2_block_moved_after_tlbi_by_address : judged (
     "bbmlog 1 hyp 2 1 1 1"
@@ -203,7 +254,7 @@ stage2_table_flushed_whole_and_linked_elsewhere = refl
 
 -- Rule 7, rewritten-fresh
 
--- A value with bit 0 set may not be cleared.
+-- A value of a fresh page with bit 0 set may not be cleared.
 pub fresh_value_cleared : judged (
     "bbmlog 1 hyp 2 1 1 1"
     ∷ "init 0 0x40001000"
@@ -214,7 +265,7 @@ pub fresh_value_cleared : judged (
 unfolding judged
 fresh_value_cleared = refl
 
--- An init between two writes makes the page zero.
+-- An `init` between two writes makes a fresh page zero.
 pub init_makes_the_page_zero : judged (
     "bbmlog 1 hyp 2 1 1 1"
     ∷ "init 0 0x40001000"
@@ -228,7 +279,7 @@ init_makes_the_page_zero = refl
 
 -- Rule 8, bad-kind
 
--- A page with such a leaf is attached.
+-- A page with a leaf that has the Contiguous hint is attached.
 pub contiguous_leaf_in_an_attached_page : judged (
     "bbmlog 1 hyp 2 1 1 1"
     ∷ "init 0 0x40000000"
@@ -321,6 +372,25 @@ pub childless_table_flushed_by_one_page : judged (
 unfolding judged
 childless_table_flushed_by_one_page = refl
 
+-- A page that a guest maps may become a null page.
+pub null_page_is_mapped : judged (
+    "bbmlog 5 hyp 1 1 1 1 isolated"
+    ∷ "init 0 0x40000000"
+    ∷ "init 0 0x40001000"
+    ∷ "init 0 0x40002000"
+    ∷ "root 0 s2 - 0x40000000"
+    ∷ "msr 0 vttbr_el2 0x5000040000000"
+    ∷ "isb 0"
+    ∷ "w 0 0x40000000 0x40001003"
+    ∷ "w 0 0x40001000 0x40002003"
+    ∷ "w 0 0x40002000 0x500007ff"
+    ∷ "init 0 0x50000000"
+    ∷ "null 0 0x50000000"
+    ∷ "end 11"
+    ∷ []) ≡ codes "accepted 11 events\n"
+unfolding judged
+null_page_is_mapped = refl
+
 -- Rule 11, no-root
 
 -- A page that isn't null is no base.
@@ -345,7 +415,7 @@ pub null_page_in_ttbr1_of_version_5 : judged (
 unfolding judged
 null_page_in_ttbr1_of_version_5 = refl
 
--- Under version 4 it may be in TTBR0_EL1 alone.
+-- Under version 4 a null page may be in TTBR0_EL1 alone.
 pub null_page_in_ttbr1_of_version_4 : judged (
     "bbmlog 4 kernel 2 1 1 ttbr1 -"
     ∷ "init 0 0x40000000"
@@ -357,27 +427,6 @@ unfolding judged
 null_page_in_ttbr1_of_version_4 = refl
 
 -- Rule 12, tag-conflict
-
--- The tag was readable again between the issue of the flush and its answer.
-pub readable_in_between_keeps_the_tag : judged (
-    "bbmlog 1 hyp 2 1 1 1"
-    ∷ "init 0 0x40000000"
-    ∷ "root 0 el2 - 0x40000000"
-    ∷ "msr 0 ttbr0_el2 0x40000000"
-    ∷ "isb 0"
-    ∷ "msr 0 ttbr0_el2 0x0"
-    ∷ "isb 0"
-    ∷ "tlbi 0 alle2is"
-    ∷ "msr 0 ttbr0_el2 0x40000000"
-    ∷ "isb 0"
-    ∷ "msr 0 ttbr0_el2 0x0"
-    ∷ "isb 0"
-    ∷ "dsb 0 ish"
-    ∷ "unroot 0 0x40000000"
-    ∷ "end 13"
-    ∷ []) ≡ codes "refused line 14 rule 13 root-in-use at 0x40000000\n"
-unfolding judged
-readable_in_between_keeps_the_tag = refl
 
 -- The flush was issued before the ISB, when PE 0 could still use the first root, so the tag stays held.
 pub flush_before_the_isb_keeps_the_tag : judged (
@@ -398,7 +447,31 @@ pub flush_before_the_isb_keeps_the_tag : judged (
 unfolding judged
 flush_before_the_isb_keeps_the_tag = refl
 
--- The ISB comes before the flush.
+-- Under `unflushed` the VMID of a dead guest is flushed on one PE alone: the other PE has it still.
+pub local_flush_of_a_left_vmid_on_one_pe : judged (
+    "bbmlog 5 hyp 2 1 1 1 unflushed"
+    ∷ "init 0 0x40000000"
+    ∷ "root 0 s2 - 0x40000000"
+    ∷ "msr 0 vttbr_el2 0x5000040000000"
+    ∷ "isb 0"
+    ∷ "msr 1 vttbr_el2 0x5000040000000"
+    ∷ "isb 1"
+    ∷ "msr 0 vttbr_el2 0x0"
+    ∷ "isb 0"
+    ∷ "msr 1 vttbr_el2 0x0"
+    ∷ "isb 1"
+    ∷ "unroot 0 0x40000000"
+    ∷ "init 0 0x40001000"
+    ∷ "root 0 s2 - 0x40001000"
+    ∷ "tlbi 0 alle1"
+    ∷ "dsb 0 nsh"
+    ∷ "msr 0 vttbr_el2 0x5000040001000"
+    ∷ "end 16"
+    ∷ []) ≡ codes "refused line 17 rule 12 tag-conflict at 0x40000000\n"
+unfolding judged
+local_flush_of_a_left_vmid_on_one_pe = refl
+
+-- An ASID goes to another root behind an ISB and then a flush.
 pub asid_reused_after_isb_and_flush : judged (
     "bbmlog 1 kernel 2 1 1 ttbr0"
     ∷ "init 0 0x40000000"
@@ -419,7 +492,7 @@ asid_reused_after_isb_and_flush = refl
 
 -- Rule 13, root-in-use
 
--- The registers of each PE count.
+-- A root is given up that another PE has loaded: the registers of each PE count.
 pub guest_given_up_while_loaded_on_another_pe : judged (
     "bbmlog 5 hyp 2 1 1 1 unflushed"
     ∷ "init 0 0x40000000"
@@ -432,36 +505,7 @@ pub guest_given_up_while_loaded_on_another_pe : judged (
 unfolding judged
 guest_given_up_while_loaded_on_another_pe = refl
 
--- Until the ISB the register may be read as it was.
-pub guest_given_up_before_the_isb : judged (
-    "bbmlog 5 hyp 2 1 1 1 unflushed"
-    ∷ "init 0 0x40000000"
-    ∷ "root 0 s2 - 0x40000000"
-    ∷ "msr 0 vttbr_el2 0x5000040000000"
-    ∷ "isb 0"
-    ∷ "msr 0 vttbr_el2 0x0"
-    ∷ "unroot 0 0x40000000"
-    ∷ "end 6"
-    ∷ []) ≡ codes "refused line 7 rule 13 root-in-use at 0x40000000\n"
-unfolding judged
-guest_given_up_before_the_isb = refl
-
--- No register names the root any more, but nothing took its tag away.
-pub unroot_while_a_tag_is_held : judged (
-    "bbmlog 1 hyp 2 1 1 1"
-    ∷ "init 0 0x40000000"
-    ∷ "root 0 el2 - 0x40000000"
-    ∷ "msr 0 ttbr0_el2 0x40000000"
-    ∷ "isb 0"
-    ∷ "msr 0 ttbr0_el2 0x0"
-    ∷ "isb 0"
-    ∷ "unroot 0 0x40000000"
-    ∷ "end 7"
-    ∷ []) ≡ codes "refused line 8 rule 13 root-in-use at 0x40000000\n"
-unfolding judged
-unroot_while_a_tag_is_held = refl
-
--- A guest dies, and its pages are used again under another VMID.
+-- Under `unflushed` a guest dies, and its pages are used again under another VMID.
 pub guest_that_dies_unflushed : judged (
     "bbmlog 5 hyp 2 1 1 1 unflushed"
     ∷ "init 0 0x40000000"
@@ -551,7 +595,7 @@ pub level_hint_0_is_no_hint : judged (
 unfolding judged
 level_hint_0_is_no_hint = refl
 
--- Rule 16, lock-busy
+-- Rules 16 and 17, lock-busy and lock-not-mine
 
 -- Giving back one lock frees no other.
 pub unlock_of_another_lock : judged (
@@ -565,6 +609,15 @@ pub unlock_of_another_lock : judged (
 unfolding judged
 unlock_of_another_lock = refl
 
+-- A lock is given back by a PE that doesn't hold it.
+pub unlock_by_another : judged (
+    "bbmlog 1 hyp 2 1 1 1"
+    ∷ "unlock 1 3"
+    ∷ "end 1"
+    ∷ []) ≡ codes "refused line 2 rule 17 lock-not-mine at 0x3\n"
+unfolding judged
+unlock_by_another = refl
+
 -- A lock that was given back may be taken by another PE.
 pub lock_free_after_unlock : judged (
     "bbmlog 1 hyp 2 1 1 1"
@@ -575,17 +628,6 @@ pub lock_free_after_unlock : judged (
     ∷ []) ≡ codes "accepted 3 events\n"
 unfolding judged
 lock_free_after_unlock = refl
-
--- Rule 17, lock-not-mine
-
--- A lock is given back by a PE that doesn't hold it.
-pub unlock_by_another : judged (
-    "bbmlog 1 hyp 2 1 1 1"
-    ∷ "unlock 1 3"
-    ∷ "end 1"
-    ∷ []) ≡ codes "refused line 2 rule 17 lock-not-mine at 0x3\n"
-unfolding judged
-unlock_by_another = refl
 
 -- Rule 18, table-mapped
 
@@ -638,3 +680,105 @@ pub guest_page_flushed : judged (
     ∷ []) ≡ codes "accepted 19 events\n"
 unfolding judged
 guest_page_flushed = refl
+
+-- A block of 2 MiB maps a table in its last page.
+pub block_2mib_last_page : judged (
+    "bbmlog 5 hyp 1 1 1 1 isolated"
+    ∷ "init 0 0x403ff000"
+    ∷ "root 0 el2 - 0x403ff000"
+    ∷ "init 0 0x40000000"
+    ∷ "init 0 0x40001000"
+    ∷ "root 0 s2 - 0x40000000"
+    ∷ "msr 0 vttbr_el2 0x5000040000000"
+    ∷ "isb 0"
+    ∷ "w 0 0x40000000 0x40001003"
+    ∷ "w 0 0x40001000 0x402007fd"
+    ∷ "end 9"
+    ∷ []) ≡ codes "refused line 10 rule 18 table-mapped at 0x403ff000\n"
+unfolding judged
+block_2mib_last_page = refl
+
+-- A leaf of a tree that no PE has loaded maps a table.
+pub tree_that_no_pe_loads : judged (
+    "bbmlog 5 hyp 1 1 1 1 isolated"
+    ∷ "init 0 0x40000000"
+    ∷ "root 0 s2 - 0x40000000"
+    ∷ "w 0 0x40000008 0x400007fd"
+    ∷ "msr 0 vttbr_el2 0x5000040000000"
+    ∷ "end 4"
+    ∷ []) ≡ codes "refused line 4 rule 18 table-mapped at 0x40000000\n"
+unfolding judged
+tree_that_no_pe_loads = refl
+
+-- A root is declared whose page has a leaf for that page itself.
+pub root_has_a_leaf_for_itself : judged (
+    "bbmlog 5 hyp 1 1 1 1 isolated"
+    ∷ "init 0 0x40000000"
+    ∷ "w 0 0x40000008 0x400007fd"
+    ∷ "root 0 s2 - 0x40000000"
+    ∷ "msr 0 vttbr_el2 0x5000040000000"
+    ∷ "end 4"
+    ∷ []) ≡ codes "refused line 4 rule 18 table-mapped at 0x40000000\n"
+unfolding judged
+root_has_a_leaf_for_itself = refl
+
+-- A fresh page is linked that links a page which a guest maps.
+pub table_below_is_mapped : judged (
+    "bbmlog 5 hyp 1 1 1 1 isolated"
+    ∷ "init 0 0x40000000"
+    ∷ "init 0 0x40001000"
+    ∷ "init 0 0x40002000"
+    ∷ "root 0 s2 - 0x40000000"
+    ∷ "msr 0 vttbr_el2 0x5000040000000"
+    ∷ "isb 0"
+    ∷ "w 0 0x40000000 0x40001003"
+    ∷ "w 0 0x40001000 0x40002003"
+    ∷ "w 0 0x40002000 0x500007ff"
+    ∷ "init 0 0x50000000"
+    ∷ "init 0 0x40011000"
+    ∷ "w 0 0x40011000 0x50000003"
+    ∷ "init 0 0x40010000"
+    ∷ "root 0 el2 - 0x40010000"
+    ∷ "w 0 0x40010000 0x40011003"
+    ∷ "end 15"
+    ∷ []) ≡ codes "refused line 16 rule 18 table-mapped at 0x50000000\n"
+unfolding judged
+table_below_is_mapped = refl
+
+-- A leaf of EL2 may map a table: stage 2 alone counts.
+pub leaf_of_el2_maps_a_table : judged (
+    "bbmlog 5 hyp 1 1 1 1 isolated"
+    ∷ "init 0 0x40010000"
+    ∷ "init 0 0x40011000"
+    ∷ "init 0 0x40012000"
+    ∷ "root 0 el2 - 0x40010000"
+    ∷ "w 0 0x40010000 0x40011003"
+    ∷ "w 0 0x40011000 0x40012003"
+    ∷ "w 0 0x40012000 0x40010703"
+    ∷ "end 7"
+    ∷ []) ≡ codes "accepted 7 events\n"
+unfolding judged
+leaf_of_el2_maps_a_table = refl
+
+-- Without the word `isolated` a guest's page may become a table before the flush.
+pub guest_page_not_flushed_without_the_word : judged (
+    "bbmlog 5 hyp 1 1 1 1"
+    ∷ "init 0 0x40000000"
+    ∷ "init 0 0x40001000"
+    ∷ "init 0 0x40002000"
+    ∷ "root 0 s2 - 0x40000000"
+    ∷ "msr 0 vttbr_el2 0x5000040000000"
+    ∷ "isb 0"
+    ∷ "w 0 0x40000000 0x40001003"
+    ∷ "w 0 0x40001000 0x40002003"
+    ∷ "w 0 0x40002000 0x500007ff"
+    ∷ "w 0 0x40002000 0x0"
+    ∷ "dsb 0 ishst"
+    ∷ "init 0 0x50000000"
+    ∷ "init 0 0x40010000"
+    ∷ "root 0 el2 - 0x40010000"
+    ∷ "w 0 0x40010000 0x50000003"
+    ∷ "end 15"
+    ∷ []) ≡ codes "accepted 15 events\n"
+unfolding judged
+guest_page_not_flushed_without_the_word = refl

@@ -154,28 +154,6 @@ pub follow_combined_entry_outlives_the_flush : followed (
 unfolding followed
 follow_combined_entry_outlives_the_flush = refl
 
--- The same with the TLBI after the joining.
-pub follow_combined_entry_is_taken : followed (
-    "bbmlog 1 hyp 2 1 1 1"
-    ∷ "init 0 0x40002000"
-    ∷ "root 0 s2 - 0x40002000"
-    ∷ "msr 0 vttbr_el2 0x5000040002000"
-    ∷ "isb 0"
-    ∷ "w 0 0x40002008 0x800007fd"
-    ∷ "m start 0 s2 5 0x40002008 0x800007fd"
-    ∷ "w 0 0x40002008 0x0"
-    ∷ "dsb 0 ishst"
-    ∷ "tlbi 0 ipas2e1is 0x40000"
-    ∷ "m combine 1"
-    ∷ "tlbi 0 vmalle1is"
-    ∷ "m drop 1"
-    ∷ "dsb 0 ish"
-    ∷ "w 0 0x40002008 0xc00007fd"
-    ∷ "end 11"
-    ∷ []) ≡ codes "bad step line 14"
-unfolding followed
-follow_combined_entry_is_taken = refl
-
 -- The copy at PE 0 is as old as the entry of PE 1.
 pub follow_shared_entry : followed (
     "bbmlog 2 hyp 2 1 1 1 cnp"
@@ -230,24 +208,6 @@ pub entry_was_dropped : followed (
 unfolding followed
 entry_was_dropped = refl
 
--- TTBR1_EL1 names the ASID of the lower range.
-pub asid_of_the_selected_register : followed (
-    "bbmlog 1 kernel 1 1 1 ttbr1"
-    ∷ "init 0 0x40000000"
-    ∷ "init 0 0x40001000"
-    ∷ "root 0 ttbr0 - 0x40000000"
-    ∷ "root 0 ttbr1 - 0x40001000"
-    ∷ "msr 0 ttbr0_el1 0x5000040000000"
-    ∷ "msr 0 ttbr1_el1 0x7000040001000"
-    ∷ "isb 0"
-    ∷ "w 0 0x40000000 0x80000f01"
-    ∷ "m start 0 ttbr0 7 0x40000000 0x80000f01"
-    ∷ "m start 0 ttbr0 5 0x40000000 0x80000f01"
-    ∷ "end 8"
-    ∷ []) ≡ codes "bad step line 11"
-unfolding followed
-asid_of_the_selected_register = refl
-
 -- TTBR0_EL1 names the ASID of the upper range.
 pub asid_of_ttbr0_where_the_header_says_so : followed (
     "bbmlog 1 kernel 1 1 1 ttbr0"
@@ -265,33 +225,6 @@ pub asid_of_ttbr0_where_the_header_says_so : followed (
     ∷ []) ≡ codes "bad step line 11"
 unfolding followed
 asid_of_ttbr0_where_the_header_says_so = refl
-
--- An old table that never stood beside the new ASID isn't read under it.
-pub follow_the_switch_in_order : followed (
-    "bbmlog 5 kernel 2 2 2 ttbr1 inorder"
-    ∷ "init 0 0x40000000"
-    ∷ "null 0 0x40000000"
-    ∷ "init 0 0x40001000"
-    ∷ "root 0 ttbr1 - 0x40001000"
-    ∷ "init 0 0x40002000"
-    ∷ "root 0 ttbr0 - 0x40002000"
-    ∷ "init 0 0x40003000"
-    ∷ "root 0 ttbr0 - 0x40003000"
-    ∷ "w 0 0x40002000 0x40200f01"
-    ∷ "msr 0 ttbr0_el1 0x40000000"
-    ∷ "msr 0 ttbr1_el1 0x1000040001000"
-    ∷ "isb 0"
-    ∷ "msr 0 ttbr0_el1 0x40002000"
-    ∷ "isb 0"
-    ∷ "msr 0 ttbr0_el1 0x40000000"
-    ∷ "msr 0 ttbr1_el1 0x2000040001000"
-    ∷ "m start 0 ttbr0 2 0x40002000 0x40200f01"
-    ∷ "msr 0 ttbr0_el1 0x40003000"
-    ∷ "isb 0"
-    ∷ "end 18"
-    ∷ []) ≡ codes "bad step line 18"
-unfolding followed
-follow_the_switch_in_order = refl
 
 -- An entry of an earlier declaration of the page is one of another root.
 pub follow_same_page_is_another_root : followed (
@@ -311,71 +244,3 @@ pub follow_same_page_is_another_root : followed (
     ∷ []) ≡ codes "run 11 steps conflict line 12"
 unfolding followed
 follow_same_page_is_another_root = refl
-
--- A walk of a root that was given up doesn't go on.
-pub follow_walk_of_a_root_that_was_given_up : followed (
-    "bbmlog 5 kernel 1 1 2 ttbr0 unflushed"
-    ∷ "init 0 0x40000000"
-    ∷ "init 0 0x40001000"
-    ∷ "root 0 ttbr0 - 0x40000000"
-    ∷ "w 0 0x40000000 0x40001003"
-    ∷ "msr 0 ttbr0_el1 0x5000040000000"
-    ∷ "m start 0 ttbr0 5 0x40000000 0x40001003"
-    ∷ "msr 0 ttbr0_el1 0x0"
-    ∷ "isb 0"
-    ∷ "unroot 0 0x40000000"
-    ∷ "init 0 0x40001000"
-    ∷ "root 0 ttbr1 - 0x40001000"
-    ∷ "w 0 0x40001000 0x40200701"
-    ∷ "m extend 1 0x40001000 0x40200701"
-    ∷ "m drop 1"
-    ∷ "tlbi 0 aside1is 0x5000000000000"
-    ∷ "dsb 0 ish"
-    ∷ "init 0 0x40000000"
-    ∷ "root 0 ttbr0 - 0x40000000"
-    ∷ "msr 0 ttbr0_el1 0x5000040000000"
-    ∷ "end 16"
-    ∷ []) ≡ codes "bad step line 14"
-unfolding followed
-follow_walk_of_a_root_that_was_given_up = refl
-
--- Nor does it where its page was declared anew.
-pub follow_old_walk_of_a_root_declared_anew : followed (
-    "bbmlog 5 hyp 2 1 1 1 unflushed"
-    ∷ "init 0 0x40000000"
-    ∷ "init 0 0x40001000"
-    ∷ "root 0 s2 - 0x40000000"
-    ∷ "w 0 0x40000000 0x40001003"
-    ∷ "msr 0 vttbr_el2 0x5000040000000"
-    ∷ "m start 0 s2 5 0x40000000 0x40001003"
-    ∷ "msr 0 vttbr_el2 0x0"
-    ∷ "isb 0"
-    ∷ "unroot 0 0x40000000"
-    ∷ "init 0 0x40000000"
-    ∷ "root 0 s2 - 0x40000000"
-    ∷ "w 0 0x40001000 0x40200701"
-    ∷ "m extend 1 0x40001000 0x40200701"
-    ∷ "end 11"
-    ∷ []) ≡ codes "bad step line 14"
-unfolding followed
-follow_old_walk_of_a_root_declared_anew = refl
-
--- A write and an `init` don't conflict with an entry of a root that was given up.
-pub follow_pages_of_a_dead_guest_used_again : followed (
-    "bbmlog 5 hyp 2 1 1 1 unflushed"
-    ∷ "init 0 0x40000000"
-    ∷ "root 0 s2 - 0x40000000"
-    ∷ "w 0 0x40000000 0x40000701"
-    ∷ "msr 0 vttbr_el2 0x5000040000000"
-    ∷ "m start 0 s2 5 0x40000000 0x40000701"
-    ∷ "msr 0 vttbr_el2 0x0"
-    ∷ "isb 0"
-    ∷ "unroot 0 0x40000000"
-    ∷ "init 0 0x40000000"
-    ∷ "w 0 0x40000000 0x80000701"
-    ∷ "root 0 s2 - 0x40000000"
-    ∷ "msr 0 vttbr_el2 0x6000040000000"
-    ∷ "end 11"
-    ∷ []) ≡ codes "run 12 steps"
-unfolding followed
-follow_pages_of_a_dead_guest_used_again = refl
