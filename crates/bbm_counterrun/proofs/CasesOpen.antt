@@ -8,7 +8,7 @@ use Rattle.bbm_rules.specs.Prelude.{Hyp, Init, Root, Msr, Isb, Ttbr0El2, El2Tag,
 use Rattle.bbm_events.specs.Heading.{no_words}
 use Rattle.bbm_tlb_machine.specs.Step.{started}
 use Rattle.bbm_counterrun.specs.StandsOpen.{Reached}
-use Rattle.bbm_counterrun.proofs.ReachedOpen.{none_split}
+use Rattle.bbm_histories.proofs.Induction.{none_split}
 
 abbrev small : Heading
 small = record { version = 1; pes = 1; cnp = false; words = no_words; world = Hyp (record { el2_start = 1; s2_start = 1; s2_pages = 1 }) }

@@ -44,6 +44,7 @@ use Rattle.bbm_counterrun.specs.StandsOpen.{Fair, StandsOpen, Walked, takes_walk
 use Rattle.bbm_counterrun.specs.Tested.{walk_by}
 use Rattle.bbm_counterrun.proofs.OneEntry.{forbidden_in, forbidden_is}
 use Rattle.bbm_counterrun.proofs.StaysUp.{stays_up}
+use Rattle.bbm_counterrun.proofs.WayParts.{pe_stays}
 use Rattle.bbm_histories.specs.PositionLaws.{TreeAfter}
 use Rattle.bbm_histories.specs.ValueChanges.{NoInit}
 use Rattle.bbm_tlbi_scope.specs.Agreement.{IsCoverFor}
@@ -76,10 +77,6 @@ module _ (heading : Heading) where
       }
 
 -- what extends leave as it was
-same_pe : (y : Entry) (rs : List Read) → (extended_by y rs).pe ≡ y.pe
-same_pe y [] = refl
-same_pe y (r ∷ rs) = same_pe (extended y r.place r.value) rs
-
 same_since : (y : Entry) (rs : List Read) → (extended_by y rs).since ≡ y.since
 same_since y [] = refl
 same_since y (r ∷ rs) = same_since (extended y r.place r.value) rs
@@ -641,7 +638,7 @@ module _ (heading : Heading) (k : Known heading Patterns) (steps : FineSteps hea
   walk_since = ap (λ (z : Entry). z.since) its_walk.is ∙ same_since start its_walk.rest
 
   walk_pe : o.walk.pe ≡ p
-  walk_pe = ap (λ (z : Entry). z.pe) its_walk.is ∙ same_pe start its_walk.rest
+  walk_pe = ap (λ (z : Entry). z.pe) its_walk.is ∙ pe_stays start its_walk.rest
 
   walk_comes : Comes o.walk
   walk_comes = record {
@@ -795,7 +792,7 @@ module _ (heading : Heading) (k : Known heading Patterns) (steps : FineSteps hea
       its_barrier : Barred heading o.walk bar.d.event (events_of bar.mid ++ o.older)
       its_barrier = barred heading k steps o.walk bar.d.event (events_of bar.mid ++ o.older) bar.here
 
-      -- nothing forbids what was joined
+      -- no second TLBI takes what was joined
       not_twice : FirstBar heading (combined (length (events_of bar.mid ++ o.older)) o.walk) (events_of bar.mid ++ o.older) (bar.last ++ bar.d ∷ []) → ⊥
       not_twice two =
           apart_then two.last (two.mid ++ bar.mid) two.d split2 (combined (length (events_of bar.mid ++ o.older)) o.walk) comes fine2 up2 barred2 refl bar.last bar.mid bar.d
@@ -841,9 +838,16 @@ module _ (heading : Heading) (k : Known heading Patterns) (steps : FineSteps hea
               let same = events_length bar.mid in
               omega (arith, parts, same)
 
-      plain_joined : forbidden_in heading (combined (length (events_of bar.mid ++ o.older)) o.walk) (events_of (bar.last ++ bar.d ∷ [])) (events_of bar.mid ++ o.older) ≡ false
-          → IsPlain heading h (Write pe place value) (plan_by (Some (length (events_of bar.mid ++ o.older))))
-      plain_joined none =
+      -- nothing forbids what was joined
+      none_joined : forbidden_in heading (combined (length (events_of bar.mid ++ o.older)) o.walk) (events_of (bar.last ++ bar.d ∷ [])) (events_of bar.mid ++ o.older) ≡ false
+      none_joined =
+          elim (first_bar heading (combined (length (events_of bar.mid ++ o.older)) o.walk) (events_of bar.mid ++ o.older) (bar.last ++ bar.d ∷ [])) [
+            | inl none ↦ none
+            | inr two ↦ absurd (not_twice two)
+          ]
+
+      plain_joined : IsPlain heading h (Write pe place value) (plan_by (Some (length (events_of bar.mid ++ o.older))))
+      plain_joined =
           (law h (Write pe place value) (plan_by (Some (length (events_of bar.mid ++ o.older))))).1
           (and_from _ _ (and_from _ _ (and_from _ _ within (may_walk_it (Some (length (events_of bar.mid ++ o.older))))) outlived) conflict)
         where
@@ -871,7 +875,7 @@ module _ (heading : Heading) (k : Known heading Patterns) (steps : FineSteps hea
           after =
               subst (λ (es : List Event). is_forbidden heading (length (events_of bar.mid ++ o.older)) (length es) (combined (length (events_of bar.mid ++ o.older)) o.walk) es ≡ false) (sym late_is)
               (forbidden_is heading [] (events_of (bar.last ++ bar.d ∷ [])) (events_of bar.mid ++ o.older) (length (events_of bar.mid ++ o.older))
-              (length (events_of (bar.last ++ bar.d ∷ []) ++ (events_of bar.mid ++ o.older))) (combined (length (events_of bar.mid ++ o.older)) o.walk) refl refl ∙ none)
+              (length (events_of (bar.last ++ bar.d ∷ []) ++ (events_of bar.mid ++ o.older))) (combined (length (events_of bar.mid ++ o.older)) o.walk) refl refl ∙ none_joined)
 
           outlived : outlives heading (walked_by heading (plan_by (Some (length (events_of bar.mid ++ o.older))))) (length o.older)
               (Some (length (events_of bar.mid ++ o.older))) h ≡ true
@@ -883,7 +887,7 @@ module _ (heading : Heading) (k : Known heading Patterns) (steps : FineSteps hea
           fine_now =
               subst (λ (es : List Event). Fine heading Patterns es (combined (length (events_of bar.mid ++ o.older)) o.walk)) (sym late_is)
               (fine_on heading k steps (combined (length (events_of bar.mid ++ o.older)) o.walk) (events_of bar.mid ++ o.older) (events_of (bar.last ++ bar.d ∷ []))
-              (subst (λ (es : List Event). keeps heading Patterns es ≡ true) late_is kept) joined_fine none)
+              (subst (λ (es : List Event). keeps heading Patterns es ≡ true) late_is kept) joined_fine none_joined)
 
           conflict : conflicts_with heading h (Write pe place value)
               (combined_by (Some (length (events_of bar.mid ++ o.older))) (walked_by heading (plan_by (Some (length (events_of bar.mid ++ o.older)))))) ≡ true
@@ -891,16 +895,9 @@ module _ (heading : Heading) (k : Known heading Patterns) (steps : FineSteps hea
               subst (λ (z : Entry). conflicts_with heading h (Write pe place value) (combined (length (events_of bar.mid ++ o.older)) z) ≡ true) its_walk.is
               (conflicts_it pe value refused (combined (length (events_of bar.mid ++ o.older)) o.walk) refl fine_now its_root_stays)
 
-      plain_then : (plan : Plan) × IsPlain heading h (Write pe place value) plan
-      plain_then =
-          elim (first_bar heading (combined (length (events_of bar.mid ++ o.older)) o.walk) (events_of bar.mid ++ o.older) (bar.last ++ bar.d ∷ [])) [
-            | inl none ↦ (plan_by (Some (length (events_of bar.mid ++ o.older))), plain_joined none)
-            | inr two ↦ absurd (not_twice two)
-          ]
-
     pub open_is_plain : (plan : Plan) × IsPlain heading h (Write pe place value) plan
     open_is_plain =
         elim (first_bar heading o.walk o.older o.newer) [
           | inl none ↦ (plan_by None, plain_alone none)
-          | inr bar ↦ plain_then bar
+          | inr bar ↦ (plan_by (Some (length (events_of bar.mid ++ o.older))), plain_joined bar)
         ]

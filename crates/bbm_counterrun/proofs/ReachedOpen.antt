@@ -5,14 +5,10 @@ use Rattle.bbm_rules.proofs.Common.{ap, subst, inl, inr, true≢false, and_from,
 use Rattle.bbm_rules.proofs.Common.{seen, noted, Noted, events_of, Heading, Event, Dsb, holds_tag}
 use Rattle.bbm_rules.proofs.SearchLemmas.{some_finds}
 use Rattle.bbm_rules.specs.Cleansing.{publishes_write}
-use Rattle.bbm_histories.proofs.Induction.{Between, between_splits, events_append}
+use Rattle.bbm_histories.proofs.Induction.{Between, between_splits, events_append, none_split}
 use Rattle.bbm_tlb_machine.specs.KnownOfMachine.{Known}
 use Rattle.bbm_tlb_machine.specs.Step.{takes}
 use Rattle.bbm_counterrun.specs.StandsOpen.{IsToldNext, Reached, StandsOpen, takes_walk}
-
-pub none_split : (after before : List Noted) (t : Noted) → [] ≡ after ++ t ∷ before → ⊥
-none_split [] before t e = cc
-none_split (x ∷ after) before t e = cc
 
 module _ (heading : Heading) (place p : ℕ) where
   -- what takes a walk publishes nothing

@@ -1,10 +1,10 @@
 -- The root of a walk wasn't given up since, where the page at which the walk ended is in a tree, and no init of the page came
 -- since.
-use Rattle.bbm_counterrun.proofs.Common.{append_assoc, append-nil, length-append, Patterns, Entry, Fine}
-use Rattle.bbm_rules.proofs.Common.{◌≡◌, ℕ, suc, ◌+◌, ◌≤◌, arith, Bool, true, false, ◌&&◌, nat_le, List, [], ◌∷◌, ◌++◌, length, Contains}
+use Rattle.bbm_counterrun.proofs.Common.{append_assoc, append-nil, Patterns, Entry, Fine}
+use Rattle.bbm_rules.proofs.Common.{◌≡◌, ℕ, ◌≤◌, arith, Bool, true, false, ◌&&◌, nat_le, List, [], ◌∷◌, ◌++◌, length, Contains}
 use Rattle.bbm_rules.proofs.Common.{refl, sym, ◌∙◌, ap, subst, inl, inr, true≢false, and_parts, leb-true, keeps, noted, page_of}
 use Rattle.bbm_rules.proofs.Common.{Barrier, Heading, Event, Dsb, Unroot, gives_up, Node, in_tree, contains_head}
-use Rattle.bbm_rules.proofs.SearchLemmas.{Found, is_none_before, some_found}
+use Rattle.bbm_rules.proofs.SearchLemmas.{Found, some_found}
 use Rattle.bbm_rules.proofs.TagEndsLaw.{gives_up_is}
 use Rattle.bbm_rules.specs.Roots.{given_up_since}
 use Rattle.bbm_rules.specs.Tree.{tree}
@@ -14,21 +14,7 @@ use Rattle.bbm_histories.specs.ValueChanges.{NoInit}
 use Rattle.bbm_tlb_machine.specs.Entry.{is_given_up}
 use Rattle.bbm_tlb_machine.specs.Invariant.{Placed}
 use Rattle.bbm_tlb_machine.specs.KnownOfMachine.{Known}
-
--- nothing was given up since now
-not_yet : (u : Bool) (n page : ℕ) (h : List Event) → length h ≤ n → (u && given_up_since n page h) ≡ false
-not_yet true n page h le =
-    is_none_before (λ e before. nat_le n (length before) && gives_up page e) h
-    (λ newer e older s. too_early newer e older s (nat_le n (length older)) refl)
-  where
-    too_early : (newer : List Event) (e : Event) (older : List Event) → h ≡ newer ++ e ∷ older → (b : Bool) → nat_le n (length older) ≡ b
-        → (b && gives_up page e) ≡ false
-    too_early newer e older s true b =
-        let late : n ≤ length older = leb-true n (length older) b in
-        let long : length h ≡ length newer + suc (length older) = ap length s ∙ length-append newer (e ∷ older) in
-        absurd (omega (arith, late, long, le))
-    too_early newer e older s false b = refl
-not_yet false n page h le = refl
+use Rattle.bbm_tlb_machine.proofs.GivenUp.{not_yet}
 
 module _ (heading : Heading) (k : Known heading Patterns) where
   -- a page of a tree that wasn't initialised since was in it at each moment
