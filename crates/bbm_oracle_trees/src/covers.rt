@@ -271,8 +271,8 @@ fn tlbi_covers<E: Evidence>(
 }
 
 /// The places of the trees that the event, coming after those of the log, covers, and how far, by its covers or its top
-/// covers. `NoMemory` where there is none. Source: Arm ARM (DDI 0487), "TLB maintenance instructions"; the grades of cover are the project's own
-/// choice.
+/// covers. `NoMemory` where there is none. Source: Arm ARM (DDI 0487), "TLB maintenance instructions"; the grades of
+/// cover are the project's own choice.
 pub fn covers_of<E: Evidence>(
     alloc: Global,
     log: &Log<E>,

@@ -17,7 +17,9 @@ pub mod taking;
 pub use covering::{cover, top_cover, where_fits};
 pub use decoding::decode;
 pub use entry::{Cover, EntryHead, EntryKind, PlaceView, TagSet};
-pub use laws::{law_cover_takes, law_range, law_taken_is_covered, law_top_takes, law_whole_tag_takes};
+pub use laws::{
+    law_cover_takes, law_range, law_taken_is_covered, law_top_takes, law_whole_tag_takes,
+};
 pub use op::TlbiOp;
 pub use scope::{BadOperand, Family, Scope, lacks_vmid};
 pub use tag_set::with_tag;
