@@ -1,6 +1,7 @@
 use Rattle.bbm_roots.proofs.Common.{◌≡◌, ◌∙◌, ap, sym, refl, nat_eq, ◌+◌, ◌∷◌, cond, ℕ, Option, Some, None, Bool, false, ◌||◌, false≢true, second_none}
 use Rattle.bbm_roots.proofs.Common.{Event, Root, Declared, root_at, roots_of, retired, loads_after, is_some, length}
 use Rattle.bbm_roots.proofs.Common.{arith, rules, get, index_map_len, Patterns, Reg, first_reg, second_reg}
+use Rattle.bbm_lemmas.proofs.Bools.{first_none}
 use Rattle.bbm_histories.proofs.Induction.{kept_next}
 use Rattle.bbm_histories.proofs.ValueSteps.{root_step}
 use Rattle.bbm_roots.proofs.Judge.{free_page}
@@ -37,4 +38,5 @@ returns-in-Ok c = λ pe heading h stands keeps.
     ∙ ap (λ (o : Option Declared). cond (nat_eq c.args.page q) (Some root) o) (stands.declared q)
     ∙ sym (root_step e h q))
     (omega (arith, stands.count))
-    (λ none. unlocked h e c.args.page (Some root) (λ q. refl) (unnamed _ c.is_some.result c.args.lock (search rules) none) (stands.locks (search rules)))
+    (λ none. unlocked h e c.args.page (Some root) (λ q. refl) (unnamed _ c.is_some.result c.args.lock (search rules) none)
+    (stands.locks (first_none c.args.self.now.names_locks c.is_some.result none)))
