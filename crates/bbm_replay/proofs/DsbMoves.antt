@@ -83,7 +83,7 @@ module _ {heading : Heading} (laws : Laws heading) {h : List Event} {old mid new
         (completes.completed a)
         (λ p other b c i. completes.others p a other b c i
         ∙ ap (λ x. x && waits (mid.pends p a) b c i) (sym (broken_marks None (new.marks a))))
-        (entry_same laws s refl (λ p. hears.pends p a)))
+        refl (entry_same laws s refl (λ p. hears.pends p a)))
 
     pub dsb_entry : EntryStands heading (e ∷ h) n.kind n.level a (state_of new n.kind n.level a) (waiting new a)
     dsb_entry = by_break laws new t e n a is (value_same a) broken_entry (λ k whole s. (
