@@ -46,7 +46,8 @@ memory_file() {
 
 # OUT: compiles the guest without an operating system.
 build_guest() {
-  aarch64-linux-gnu-gcc -g -O2 -Wall -Wextra -Werror -ffreestanding -nostdlib -static -fno-pic -no-pie -mgeneral-regs-only \
-    -mstrict-align -fno-stack-protector -Wl,--build-id=none -Wl,--no-warn-rwx-segments -Wl,-T,"$top/emit/qemu/guest/guest.ld" \
-    -o "$1" "$top/emit/qemu/guest/start.S" "$top/emit/qemu/guest/guest.c"
+  local guest=$top/emit/qemu/guest
+  aarch64-linux-gnu-gcc -g -O2 -Wall -Wextra -Werror -ffreestanding -nostdlib -static -fno-pic -no-pie \
+    -mgeneral-regs-only -mstrict-align -fno-stack-protector -Wl,--build-id=none -Wl,--no-warn-rwx-segments \
+    -Wl,-T,"$guest/guest.ld" -o "$1" "$guest/start.S" "$guest/guest.c"
 }

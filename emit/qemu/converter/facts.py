@@ -75,7 +75,9 @@ class Facts:
 
     def add_register(self, index: int, record: Record) -> None:
         pe, name, value = record.pe, record.word(0), record.value(1)
-        if name == "hcr_el2" and record.el != 1:
+        if record.was_trapped():
+            return
+        if name == "hcr_el2":
             self.guests.add_hcr(pe, value)
         if name == "vttbr_el2":
             self.guests.add_load(index, pe, value)

@@ -17,8 +17,9 @@ Exit status 0; 1 where a refusal is left that --suggest gets not past. With the 
 error says why: 2 the trace is damaged; 3 the words are wrong; 4 a file can't be read; 5 a write failed; 6 there is no
 memory; 8 the log would be accepted whatever the guest did, since it has no root, no table write or no TLBI of this
 world; 9 some root is of another form than the log's one header has, or a log of a hypervisor without VHE is asked for,
-and it has VHE; 10 the trace has no end; 70 there is no checker, or anything else. Then there is no log, or with
---follow none with an `end`; but with 10 there is one without an `end`, so it can be refused, and not accepted.
+and it has VHE, or the header that is given is too old for one that has; 10 the trace has no end; 70 there is no
+checker, or anything else. Then there is no log, or with --follow none with an `end`; but with 10 there is one without
+an `end`, so it can be refused, and not accepted.
 """
 from __future__ import annotations
 

@@ -16,6 +16,7 @@ from typing import Union
 LATEST = 5  # version of the header
 ANY, BEFORE_WORDS, WITH_WORDS = range(1, LATEST + 1), range(1, 5), range(5, LATEST + 1)
 WITH_RANGES = range(4, LATEST + 1)
+WITH_NULL_PAGES = WITH_WORDS  # of each root register
 WHEN = {ANY: "", BEFORE_WORDS: "before version 5, which has the word inorder for it", WITH_WORDS: "from version 5 on",
         WITH_RANGES: "from version 4 on, which has range TLBIs"}
 
@@ -72,15 +73,15 @@ ALL: dict[str, Normalisation] = {
         "that a PE makes no walk of EL2 then is taken from SCTLR_EL2.M"),
     "stage2-off": Normalisation(
         HYP,
-        "while HCR_EL2.VM is 0, or E2H and TGE are both 1, VTTBR_EL2 is told with a null page as its base and the VMID "
-        "that it has",
-        "that a PE makes no walk of stage 2 then is taken from HCR_EL2", WITH_WORDS),
+        "while HCR_EL2.VM is 0, and E2H and TGE aren't both 1, VTTBR_EL2 is told with a null page as its base and the "
+        "VMID that it has",
+        "that a PE makes no walk of stage 2 then is taken from HCR_EL2.VM", WITH_NULL_PAGES),
     "out-of-context": Normalisation(
         HYP,
         "a value of VTTBR_EL2 with which a PE doesn't go below EL2 (any more) is told with a null page as its base and "
         "the VMID that it has",
         "that a PE at EL2 makes no walk of stage 2 is taken from the architecture: that regime is out of context",
-        WITH_WORDS),
+        WITH_NULL_PAGES),
     "no-cnp": Normalisation(
         HYP, "bit 0 of root registers is told as 0, and the header says that TLBs aren't shared",
         "entries that one PE takes from another aren't judged"),
@@ -114,9 +115,14 @@ def of_world(some: Mapping[str, Normalisation | Word], world: str | None) -> lis
     return [name for name, one in some.items() if world is None or world in one.worlds]
 
 
+def version_of(header: str) -> int:
+    """The version of a header that is given, or of the one that is found where none is."""
+    return int(header.split()[1]) if header else LATEST
+
+
 def is_of_version(name: str, header: str) -> bool:
-    """Whether a normalisation is made under a header that is given, or the one that is found where none is."""
-    return (int(header.split()[1]) if header else LATEST) in ALL[name].versions
+    """Whether a normalisation is made under a header."""
+    return version_of(header) in ALL[name].versions
 
 
 def about(name: str, often: str = "") -> str:

@@ -47,6 +47,10 @@ class Record:
         """A field of the rest, in decimal."""
         return int(self.fields[5 + at])
 
+    def was_trapped(self) -> bool:
+        """Whether it is a write of a register of EL2 below EL2, which wrote nothing."""
+        return self.word(0).endswith("_el2") and self.el < 2
+
     def came_from_below(self) -> bool:
         """Whether it is an exception to EL2 from a lower EL, by which half of the vectors it was taken."""
         is_exception = self.fields[0] == "i" and self.fields[2] == "2" and self.fields[5:6] == ["0"]

@@ -8,7 +8,7 @@ from converter.pes import Pes
 from converter.records import Record
 from converter.telling import Condition, Telling
 from converter.trees import Trees
-from converter.worlds import BASE, has_stage2, is_host
+from converter.worlds import BASE, Stage2, stage2_by
 
 ASID_BIT = 1 << 48
 NO_UPPER_WALKS = 1 << 23  # TCR.EPD1
@@ -20,15 +20,16 @@ NULL_PAGE = 0  # the base of a VTTBR_EL2 by which no walk is made: of a machine 
 class Registers:
     def __init__(self, facts: Facts, form: Form, telling: Telling, pes: Pes, trees: Trees) -> None:
         self.world, self.form, self.telling, self.pes, self.trees = facts.world, form, telling, pes, trees
-        # The normalisations for which the null page was told; T1SZ of other upper ranges than a log has, and whether a
-        # root register has CnP.
-        self.has_null: set[str] = set()
+        # The normalisations for which the null page was told, with None where it is told whatever is allowed; T1SZ of
+        # other upper ranges than a log has, and whether a root register has CnP.
+        self.has_null: set[str | None] = set()
         self.upper_sizes: set[int] = set()
         self.has_cnp = False
 
     def take(self, record: Record) -> None:
         pe, name, value = record.pe, record.word(0), record.value(1)
-        self.take_control(record, pe, name, value)
+        if not record.was_trapped():
+            self.take_control(record, pe, name, value)
         if name not in self.world.registers:
             return
         if record.el != self.world.el:
@@ -40,10 +41,8 @@ class Registers:
 
     def take_control(self, record: Record, pe: str, name: str, value: int) -> None:
         """A register that says how others are meant."""
-        if name == "hcr_el2" and record.el != 1:
-            self.pes.hosts[pe] = is_host(value)
-            self.pes.was_host = self.pes.was_host or is_host(value)
-            self.turn_stage2(record, pe, has_stage2(value))
+        if name == "hcr_el2":
+            self.turn_stage2(record, pe, stage2_by(value))
         if name == "sctlr_el2" and self.world.has_el2:
             self.turn_mmu(record, pe, bool(value & 1))
         if name == self.world.attributes:
@@ -85,14 +84,11 @@ class Registers:
             self.trees.declare(value & BASE, pe)
         self.note_asid(pe)
         self.note_upper_size(pe)
+        if name == "vttbr_el2" and value & BASE:
+            self.tell_vttbr(record, value)
+            return
         switches = not self.world.is_hyp and (told.word == "ttbr1_el1" or (root and root.is_null))
         behind = self.telling.normalised("isb-between-ttbrs") if switches else {}
-        for idle in self.idle_by(pe, name, value):
-            self.tell_null(pe, idle)
-            for null, of_value in self.told_values(name, value & ~BASE | NULL_PAGE, before):
-                both = {**condition, **of_value, **self.telling.normalised(idle)}
-                self.telling.emit(f"msr {pe} {told.word} 0x{null:x}", record, both)
-            condition = {**condition, idle: False}
         for one, of_value in self.told_values(name, value, before):
             self.telling.emit(f"msr {pe} {told.word} 0x{one:x}", record, {**condition, **of_value})
             if behind:
@@ -119,47 +115,71 @@ class Registers:
 
     # ---- VTTBR_EL2 by which no walk is made
 
-    def idle_by(self, pe: str, name: str, value: int) -> list[str]:
-        """The normalisations by each of which a value of VTTBR_EL2 has a null page as its base."""
-        if name != "vttbr_el2" or not value & BASE:
-            return []
-        return ["stage2-off"] * (not self.pes.stage2_on.get(pe)) + ["out-of-context"] * (not self.trees.is_used(pe))
+    def tell_vttbr(self, record: Record, value: int) -> None:
+        """A write of VTTBR_EL2."""
+        condition: Condition = {}
+        if self.pes.is_host(record.pe):
+            self.tell_idle(record, value, None, condition)
+            return
+        for name in self.idle_by(record.pe):
+            self.tell_idle(record, value, name, {**condition, **self.telling.normalised(name)})
+            condition = {**condition, name: False}
+        self.tell_values(record, value, condition)
+
+    def tell_values(self, record: Record, value: int, condition: Condition) -> None:
+        for one, of_value in self.told_values("vttbr_el2", value, None):
+            self.telling.emit(f"msr {record.pe} vttbr_el2 0x{one:x}", record, {**condition, **of_value})
+
+    def tell_idle(self, record: Record, value: int, name: str | None, condition: Condition) -> None:
+        """A value with a null page as its base, by a normalisation, or, for None, since the architecture says so."""
+        self.tell_null(record.pe, name)
+        self.telling.told["VTTBR_EL2"] += self.telling.started and name is None
+        self.tell_values(record, value & ~BASE | NULL_PAGE, condition)
+
+    def idle_by(self, pe: str) -> list[str]:
+        """The normalisations by each of which a root in VTTBR_EL2 has a null page in its place."""
+        is_off, is_used = not self.pes.walks_stage2(pe), self.trees.is_used(pe)
+        return ["stage2-off"] * is_off + ["out-of-context"] * (not is_used)
 
     def take_exception(self, record: Record) -> None:
         """An exception to EL2: a value with which EL2 never returns is out of use, though it may stand there for
         long."""
         pe = record.pe
         value = self.pes.registers[pe].get("vttbr_el2", 0)
-        if not (value & BASE and record.came_from_below()) or self.pes.hosts.get(pe) or self.trees.is_used(pe):
+        if not (value & BASE and record.came_from_below()) or self.pes.is_host(pe) or self.trees.is_used(pe):
             return
         self.tell_null(pe, "out-of-context")
         for null, of_value in self.told_values("vttbr_el2", value & ~BASE | NULL_PAGE, None):
             condition = {**of_value, **self.telling.normalised("out-of-context")}
             self.telling.emit(f"msr {pe} vttbr_el2 0x{null:x} @out-of-context", condition=condition)
 
-    def tell_null(self, pe: str, name: str) -> None:
+    def tell_null(self, pe: str, name: str | None) -> None:
         """The null page, before the first value that names it."""
-        if not self.telling.started or name in self.has_null:
+        if not self.telling.started or not self.has_null.isdisjoint((name, None)):
             return
-        condition = {name: True, **{other: False for other in self.has_null}}
+        condition = {other: False for other in self.has_null if other} | ({name: True} if name else {})
         self.has_null.add(name)
         self.telling.emit(f"init {pe} 0x{NULL_PAGE:x} @null", condition=condition)
         self.telling.emit(f"null {pe} 0x{NULL_PAGE:x} @null", condition=condition)
 
-    def turn_stage2(self, record: Record, pe: str, on: bool) -> None:
+    def turn_stage2(self, record: Record, pe: str, now: Stage2) -> None:
         """HCR_EL2 is about to change: VTTBR_EL2 is told as it is with it."""
-        was, self.pes.stage2_on[pe] = self.pes.stage2_on.get(pe, False), on
-        value = self.pes.registers[pe].get("vttbr_el2", 0)
-        if on == was or not value & BASE or not self.world.is_hyp:
+        was, value = self.pes.turn_stage2(pe, now), self.pes.registers[pe].get("vttbr_el2", 0)
+        if now is was or not value & BASE or not self.world.is_hyp:
             return
-        condition = self.telling.normalised("stage2-off")
-        if not on:
-            self.tell_null(pe, "stage2-off")
-            value = value & ~BASE | NULL_PAGE
-        elif not self.trees.is_used(pe):
-            condition = {**condition, "out-of-context": False}
-        for one, of_value in self.told_values("vttbr_el2", value, None):
-            self.telling.emit(f"msr {pe} vttbr_el2 0x{one:x}", record, {**of_value, **condition})
+        condition: Condition = {}
+        if Stage2.OFF in (was, now):
+            # stage2-off makes it as in a host, and as with stage 2 on it is without that
+            is_made = Stage2.HOST not in (was, now)
+            condition = self.telling.normalised("stage2-off") if is_made else self.telling.unless("stage2-off")
+        if now is Stage2.HOST:
+            self.tell_idle(record, value, None, condition)
+        elif was is Stage2.ON:
+            self.tell_idle(record, value, "stage2-off", condition)
+        elif self.trees.is_used(pe):
+            self.tell_values(record, value, condition)
+        else:
+            self.tell_values(record, value, {**condition, "out-of-context": False})
 
     def turn_mmu(self, record: Record, pe: str, on: bool) -> None:
         if on != self.pes.mmu_on.get(pe, False):

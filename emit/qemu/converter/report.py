@@ -10,12 +10,14 @@ from converter import normalisations
 from converter.conversion import Conversion
 from converter.ending import Status, tell
 from converter.log import HELD
-from converter.normalisations import about
+from converter.normalisations import WITH_NULL_PAGES, about, version_of
 from converter.worlds import World
 
 OTHER_GRANULES = {1: 64, 2: 16}  # TCR.TG0, in KiB
 ALWAYS = {
     "AttrIndx": "told as the least index that has the same byte in MAIR",
+    "VTTBR_EL2": "told with a null page as its base and the VMID that it has, while E2H and TGE are both 1: the "
+    "architecture takes HCR_EL2.VM for 0 then",
     "unroot": "told at the first other use of a root's page, while no register names it, or, but with --follow, of any "
     "page of a root of stage 2 that is in use nowhere and is never loaded again; when it was given up isn't known",
 }
@@ -35,6 +37,8 @@ def misfits(conversion: Conversion, header: str, allow: Collection[str]) -> list
         told.append("a root register has CnP, and the header, which was written before, says that none has")
     if told:
         told.append("one header holds for a whole log, so it would be judged by wrong addresses")
+    if conversion.telling.told["VTTBR_EL2"] and version_of(header) not in WITH_NULL_PAGES:
+        told.append("VTTBR_EL2 is told with a null page while E2H and TGE are both 1: a log has that from version 5 on")
     if is_of_host(conversion):
         told.append("HCR_EL2 has E2H and TGE: a hypervisor with VHE, whose own tables and TLBIs aren't those of this "
                     "world. The world stage2 has its guests, and the world vhe its own tables")

@@ -210,7 +210,7 @@ class Trees:
         is_root_known = self.guests.is_whole and table.root in self.roots
         if table.kind != Kind.VTTBR_EL2 or not table.is_told or not is_root_known:
             return
-        used = any(self.pes.stage2_on.get(pe) and self.is_used(pe) for pe in self.pes.loaded_at(table.root))
+        used = any(self.pes.walks_stage2(pe) and self.is_used(pe) for pe in self.pes.loaded_at(table.root))
         if not used and not self.guests.is_loaded_after(table.root, self.telling.index):
             self.give_up(record, table.root)
 

@@ -3,7 +3,7 @@
 from __future__ import annotations
 
 from dataclasses import dataclass
-from enum import IntEnum
+from enum import Enum, IntEnum
 
 BASE = 0xfffffffff000  # the address of a table, in a descriptor and in a root register
 VM, TGE, E2H = 1, 1 << 27, 1 << 34  # of HCR_EL2
@@ -17,6 +17,15 @@ class Kind(IntEnum):
     TTBR0_EL2 = 3
     TTBR1_EL2 = 4
     VTTBR_EL2 = 5
+
+
+class Stage2(Enum):
+    """What HCR_EL2 says of walks of stage 2: VM, or that E2H and TGE are both 1, where VM counts as 0, whatever it
+    is."""
+
+    OFF = "off"
+    ON = "on"
+    HOST = "host"
 
 
 @dataclass(frozen=True)
@@ -85,6 +94,7 @@ def is_host(hcr: int) -> bool:
     return hcr & (E2H | TGE) == E2H | TGE
 
 
-def has_stage2(hcr: int) -> bool:
-    """Whether stage 2 is on, by HCR_EL2. Where E2H and TGE are both 1, VM counts as 0, whatever it is."""
-    return bool(hcr & VM) and not is_host(hcr)
+def stage2_by(hcr: int) -> Stage2:
+    if is_host(hcr):
+        return Stage2.HOST
+    return Stage2.ON if hcr & VM else Stage2.OFF

@@ -788,11 +788,19 @@ static void set_hcr(u64 value)
 	isb();
 }
 
+/* The PE goes to the guest and comes back, before its first instruction. */
+static void enter_guest(void)
+{
+	set_hcr(HCR_GUEST);
+	set_hcr(HCR_HOST);
+}
+
 /* The guest lives on: its root is loaded once more. */
-static void load_again(void)
+static void run_again(void)
 {
 	write_register(vttbr_el2, guest_root | (u64)VMID << 48);
 	isb();
+	enter_guest();
 }
 
 static void flush_guest_page(void)
@@ -806,29 +814,32 @@ static void flush_guest_page(void)
 SCENARIO_CODE host_remaps(void)
 {
 	load_guest();
+	enter_guest();
 	store(guest_place(), 0);
 	dsb(ishst);
 	set_hcr(HCR_FOR_GUEST);
 	flush_guest_page();
 	set_hcr(HCR_HOST);
 	store(guest_place(), guest_leaf(FRAME_B));
-	load_again();
+	run_again();
 }
 
 /* With TGE 1 the second step takes the host's own entries. */
 SCENARIO_CODE host_remaps_with_tge(void)
 {
 	load_guest();
+	enter_guest();
 	store(guest_place(), 0);
 	dsb(ishst);
 	flush_guest_page();
 	store(guest_place(), guest_leaf(FRAME_B));
-	load_again();
+	run_again();
 }
 
 SCENARIO_CODE host_flushes_itself(void)
 {
 	load_guest();
+	enter_guest();
 	store(guest_place(), 0);
 	dsb(ishst);
 	set_hcr(HCR_FOR_GUEST);
@@ -838,19 +849,32 @@ SCENARIO_CODE host_flushes_itself(void)
 	tlbi(vmalle1is);
 	dsb(ish);
 	store(guest_place(), guest_leaf(FRAME_B));
-	load_again();
+	run_again();
 }
 
 /* The guest dies, and still stands in VTTBR_EL2. */
-SCENARIO_CODE host_lets_a_guest_die(void)
+static void let_guest_die(void)
 {
 	load_guest();
-	set_hcr(HCR_GUEST);
-	set_hcr(HCR_HOST);
+	enter_guest();
 	store(guest_place(), 0);
 	store(guest_root + 8 * (IPA >> 30), 0);
 	store(guest_root, 0x123456789ul);
+}
+
+SCENARIO_CODE host_lets_a_guest_die(void)
+{
+	let_guest_die();
 	flush_vmids();
+}
+
+/* With TGE 0 and VM 0, as for each TLBI, the dead guest is in use for whoever doesn't look at VM. */
+SCENARIO_CODE host_flushes_a_dead_guest(void)
+{
+	let_guest_die();
+	set_hcr(HCR_FOR_GUEST);
+	flush_vmids();
+	set_hcr(HCR_HOST);
 }
 
 /* ---- which runs */
@@ -886,6 +910,7 @@ static const struct scenario {
 	{ "stage2 host_remaps", HOST, false, host_remaps }, { "stage2 host_remaps_with_tge", HOST, false, host_remaps_with_tge },
 	{ "stage2 host_flushes_itself", HOST, false, host_flushes_itself },
 	{ "stage2 host_lets_a_guest_die", HOST, false, host_lets_a_guest_die },
+	{ "stage2 host_flushes_a_dead_guest", HOST, false, host_flushes_a_dead_guest },
 };
 
 void enter_el1(void);
