@@ -44,7 +44,7 @@ class Descriptors:
         self.telling.told["AttrIndx"] += self.telling.started and self.least[index] != index
         return value & ~INDEX | self.least[index] << 2
 
-    def tell(self, line: str, value: int, level: int, kind: int, record: Record | None = None, mark: str = "") -> None:
+    def tell(self, line: str, value: int, level: int, kind: Kind, record: Record | None = None, mark: str = "") -> None:
         """A write of a descriptor in a table of this level and kind."""
         leaf, is_stage1 = is_leaf(level, value), kind != Kind.VTTBR_EL2
         if leaf and is_stage1:

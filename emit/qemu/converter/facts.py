@@ -33,7 +33,7 @@ class Facts:
         # The registers that say of which form roots are, and how those start that were loaded without them.
         self.controls: dict[str, int] = {}
         self.stage2: Start | None = None
-        self.starts: defaultdict[int, Counter[Start]] = defaultdict(Counter)
+        self.starts: defaultdict[Kind, Counter[Start]] = defaultdict(Counter)
 
     def learn(self, index: int, line: str) -> None:
         """Takes where code runs, which a line may tell once the log has begun."""
@@ -65,7 +65,7 @@ class Facts:
         if op in "rd":
             self.guests.add_root(index, record.value(0))
         if op == "r":
-            self.starts[record.number(2)][Start(max(0, record.number(1)), record.number(3))] += 1
+            self.starts[record.kind(2)][Start(max(0, record.number(1)), record.number(3))] += 1
         elif op == "w":
             self.written.add(record.value(0) & ~4095)
             if record.number(3) == Kind.VTTBR_EL2:

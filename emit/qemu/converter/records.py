@@ -2,6 +2,8 @@
 """A line of a trace. bbm_trace.c says what each is."""
 from __future__ import annotations
 
+from converter.worlds import Kind
+
 FROM_BELOW = 0x400  # the half of the vectors that an exception from a lower EL takes
 
 
@@ -46,6 +48,10 @@ class Record:
     def number(self, at: int) -> int:
         """A field of the rest, in decimal."""
         return int(self.fields[5 + at])
+
+    def kind(self, at: int) -> Kind:
+        """A field of the rest, as the register through which a tree was found."""
+        return Kind(self.number(at))
 
     def was_trapped(self) -> bool:
         """Whether it is a write of a register of EL2 below EL2, which wrote nothing."""

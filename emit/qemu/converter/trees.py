@@ -28,7 +28,7 @@ class Table:
     """A page that is known as a table: its place in a tree, and its entries, until the log has them."""
 
     level: int
-    kind: int
+    kind: Kind
     root: int
     # The page of the table that links it, and at which index, as it was last.
     parent: tuple[int, int] | None = None
@@ -39,7 +39,7 @@ class Table:
 
 @dataclass
 class Root:
-    kind: int
+    kind: Kind
     start: Start
     is_null: bool
     is_declared: bool = False
@@ -66,7 +66,7 @@ class Trees:
     # ---- tables
 
     def take_new_table(self, record: Record) -> None:
-        page, level, kind, root = record.value(0), record.number(1), record.number(2), record.value(3)
+        page, level, kind, root = record.value(0), record.number(1), record.kind(2), record.value(3)
         self.named, before = (page, record.pe), self.tables.get(page)
         if before and before.is_told:
             self.note_other_use(record, before)
@@ -119,7 +119,7 @@ class Trees:
                            "as a null page, and now it is written. Without --follow it can be judged")
 
     def take_linked_again(self, record: Record) -> None:
-        page, kind, root = record.value(0), record.number(2), record.value(3)
+        page, kind, root = record.value(0), record.kind(2), record.value(3)
         if page == root and page in self.roots:
             self.load_as(page, kind)
         elif kind in self.world.kinds:
@@ -151,7 +151,7 @@ class Trees:
     # ---- roots
 
     def take_root(self, record: Record) -> None:
-        page, kind = record.value(0), record.number(2)
+        page, kind = record.value(0), record.kind(2)
         self.given_up.discard(page)
         # The table that the kernel keeps empty is never stored to.
         is_null = not self.world.is_hyp and self.tables[page].is_empty and page not in self.facts.written
@@ -162,7 +162,7 @@ class Trees:
     def take_lock_of_root(self, record: Record) -> None:
         self.locks[record.value(0)] = record.word(1)
 
-    def load_as(self, page: int, kind: int) -> None:
+    def load_as(self, page: int, kind: Kind) -> None:
         """A root is loaded by another register than before, and all that is below it is of that kind from now on."""
         self.roots[page].kind = kind
         for table in self.tables.values():
@@ -181,7 +181,7 @@ class Trees:
         if root.is_null:
             self.telling.emit(f"null {pe} 0x{page:x}")
             return
-        word = self.world.kinds[Kind(root.kind)]
+        word = self.world.kinds[root.kind]
         if self.first_upper is None and word == "ttbr1":
             self.first_upper = page
         if self.form.of_kinds()[word] != root.start:
