@@ -8,8 +8,8 @@
  *         -plugin ./bbm_trace.so,ram=RAM,out=TRACE[,base=ADDRESS][,stop=SOCKET]
  *
  * RAM is the file with the guest's memory, which the plugin maps too: so it reads tables by physical address. base is
- * the physical address of its first byte, 0x40000000 unless given. TRACE is a file or a pipe. Where the reader of a pipe
- * goes away, tracing ends; with stop, the path of a socket of QEMU's monitor, the guest is then stopped.
+ * the physical address of its first byte, 0x40000000 unless given. TRACE is a file or a pipe. Where the reader of a
+ * pipe goes away, tracing ends; with stop, the path of a socket of QEMU's monitor, the guest is then stopped.
  *
  * A page is known as a table from the store that links it, or the write of a root register that names it. Then its
  * contents are told, and from then on each store to it.
@@ -22,7 +22,8 @@
  *
  *     b .. OPTION                 a DSB has completed; OPTION is its CRm
  *     x ..                        a DSB nXS has completed
- *     i .. INSN                   a context synchronisation event: an ISB, an exception return, or, where INSN is 0, an exception
+ *     i .. INSN                   a context synchronisation event: an ISB, an exception return, or, where INSN is 0,
+ *                                 an exception
  *     t .. INSN XT                a TLBI is about to be issued: its instruction word, and the value of its register
  *     m .. REGISTER VALUE         a register is about to be written
  *     n .. PAGE LEVEL KIND ROOT   a page becomes known as a table, under the root ROOT
@@ -151,8 +152,8 @@ static const char *const names[NAMED] = { "cpsr", "SCTLR", "TCR_EL1", "TTBR0_EL1
 					  "TTBR0_EL2", "TTBR1_EL2", "HCR_EL2", "VTCR_EL2", "VTTBR_EL2" };
 static struct qemu_plugin_register *general[31], *named[NAMED];
 static pthread_once_t registers_found = PTHREAD_ONCE_INIT, host_ram_sought = PTHREAD_ONCE_INIT;
-/* The PE of this thread: with thread=multi each has a thread of its own. QEMU's own number of it isn't asked, since code
- * that runs while all others are stopped is translated with the number of one PE in it. */
+/* The PE of this thread: with thread=multi each has a thread of its own. QEMU's own number of it isn't asked, since
+ * code that runs while all others are stopped is translated with the number of one PE in it. */
 static __thread int my_pe = -1;
 
 static uint64_t register_value(struct qemu_plugin_register *handle)
@@ -308,8 +309,8 @@ static void take_contents(const struct event *event, uint64_t page, int level, e
 			say("c %u %" PRIx64 "\n", i, *told_at(page + 8 * i));
 }
 
-/* The page, and all below it, belongs to the tree that linked it last, and that is of the kind by which it was loaded last:
- * a kernel that turns itself into a host at EL2 takes its roots along. */
+/* The page, and all below it, belongs to the tree that linked it last, and that is of the kind by which it was loaded
+ * last: a kernel that turns itself into a host at EL2 takes its roots along. */
 static void move(uint64_t page, int level, enum kind kind, uint32_t from, uint32_t to)
 {
 	struct page *known = page_of(page);
@@ -438,8 +439,8 @@ static void page_reused(const struct event *event, uint64_t address)
 	page->use = UNKNOWN;
 }
 
-/* Whether a store to this table says that its page has another use: one by a user program, or to the empty page of a root
- * that no PE has loaded. A root of stage 2 can be filled while it isn't loaded, so its emptiness says nothing. */
+/* Whether a store to this table says that its page has another use: one by a user program, or to the empty page of a
+ * root that no PE has loaded. A root of stage 2 can be filled while it isn't loaded, so its emptiness says nothing. */
 static bool says_dead(const struct event *event, const struct page *page, uint64_t place)
 {
 	bool may_be_empty = page->kind == VTTBR_EL2;
@@ -449,7 +450,8 @@ static bool says_dead(const struct event *event, const struct page *page, uint64
 	return event->site->el == 0 || (page->is_root && !may_be_empty && is_empty(place & ~(PAGE_SIZE - 1)));
 }
 
-/* The level at which walks of a root start, as TCR_EL1, TCR_EL2 or VTCR_EL2 says; false where the granule isn't 4 KiB. */
+/* The level at which walks of a root start, as TCR_EL1, TCR_EL2 or VTCR_EL2 says; false where the granule isn't
+ * 4 KiB. */
 static bool start_of(enum kind kind, int *level, unsigned *pages)
 {
 	static const enum named controls[KINDS] = { CPSR, TCR_EL1, TCR_EL1, TCR_EL2, TCR_EL2, VTCR_EL2 };
@@ -558,7 +560,9 @@ static bool translate(unsigned el, uint64_t address, uint64_t *output)
 	uint64_t hcr = register_value(named[HCR_EL2]);
 	bool host = hcr >> 34 & 1, at_el2 = el == 2 || (el == 0 && host && (hcr >> 27 & 1)), upper = address >> 55 & 1;
 	enum kind kind = at_el2 ? (upper ? TTBR1_EL2 : TTBR0_EL2) : (upper ? TTBR1_EL1 : TTBR0_EL1);
-	static const enum named roots[KINDS] = { CPSR, REG_TTBR0_EL1, REG_TTBR1_EL1, REG_TTBR0_EL2, REG_TTBR1_EL2, REG_VTTBR_EL2 };
+	static const enum named roots[KINDS] = {
+		CPSR, REG_TTBR0_EL1, REG_TTBR1_EL1, REG_TTBR0_EL2, REG_TTBR1_EL2, REG_VTTBR_EL2,
+	};
 	uint64_t control = register_value(named[at_el2 ? TCR_EL2 : TCR_EL1]);
 	unsigned pages, bits = 64 - (control >> (upper ? 16 : 0) & 63);
 	int level;
@@ -576,7 +580,8 @@ static bool translate(unsigned el, uint64_t address, uint64_t *output)
 
 static void not_one_thread(void)
 {
-	fprintf(stderr, "bbm_trace: two PEs share a host thread, so that QEMU doesn't tell them apart. Start it with -accel tcg,thread=multi\n");
+	fprintf(stderr, "bbm_trace: two PEs share a host thread, so that QEMU doesn't tell them apart. Start it with -accel "
+		"tcg,thread=multi\n");
 	exit(1);
 }
 
@@ -598,8 +603,9 @@ static long milliseconds(void)
 	return now.tv_sec * 1000 + now.tv_nsec / 1000000;
 }
 
-/* Waits until each other PE has told the store that it was about, if it was about one. A store takes effect before it can
- * be told. An event that ends something is told after it completed, and after all stores that took effect before. */
+/* Waits until each other PE has told the store that it was about, if it was about one. A store takes effect before it
+ * can be told. An event that ends something is told after it completed, and after all stores that took effect
+ * before. */
 static void wait_for_stores(void)
 {
 	unsigned pe, turns;
@@ -690,7 +696,8 @@ static void tlbi_callback(unsigned vcpu, void *site)
 }
 
 /* The value that a store gave to a word, or false where it gave none. */
-static bool stored_value(const struct site *site, qemu_plugin_meminfo_t info, uint64_t address, uint64_t place, uint64_t *value)
+static bool stored_value(const struct site *site, qemu_plugin_meminfo_t info, uint64_t address, uint64_t place,
+			 uint64_t *value)
 {
 	qemu_plugin_mem_value told = qemu_plugin_mem_get_value(info);
 	uint64_t memory = memory_at(place);
@@ -756,8 +763,8 @@ static bool is_zero(uint32_t word)
 	return (word & 0xffffffe0) == 0xd50b7420 || (word & 0xffffffe0) == 0xd50b7480;
 }
 
-/* An address isn't found by a walk: it faults, or the walk isn't the one that the PE makes. A DC ZVA that faults doesn't
- * reach the next instruction of its block. */
+/* An address isn't found by a walk: it faults, or the walk isn't the one that the PE makes. A DC ZVA that faults
+ * doesn't reach the next instruction of its block. */
 static void not_found(const struct event *event)
 {
 	if (is_zero(event->site->word) && !event->site->is_last)
@@ -918,15 +925,15 @@ static bool has_stage2(uint64_t hcr)
 	return (hcr & HCR_VM) && (hcr & (HCR_E2H | HCR_TGE)) != (HCR_E2H | HCR_TGE);
 }
 
-/* Whether a root register of EL1 has an address of a guest: one that its own EL1 writes behind stage 2, or that EL2 writes for
- * it. Such an address isn't the physical one, so no page is a table for it. */
+/* Whether a root register of EL1 has an address of a guest: one that its own EL1 writes behind stage 2, or that EL2
+ * writes for it. Such an address isn't the physical one, so no page is a table for it. */
 static bool is_of_guest(enum kind kind, unsigned el)
 {
 	return (kind == TTBR0_EL1 || kind == TTBR1_EL1) && (el == 2 || has_stage2(register_value(named[HCR_EL2])));
 }
 
-/* Whether a register is one of EL2, or one of EL1 by the name that it has for a host at EL2: below EL2 a write of it is trapped,
- * or goes to memory, and the register stays. */
+/* Whether a register is one of EL2, or one of EL1 by the name that it has for a host at EL2: below EL2 a write of it is
+ * trapped, or goes to memory, and the register stays. */
 static bool is_kept_from_below(const struct system_register *written)
 {
 	return written->encoding >> 11 >= 4;
@@ -1124,7 +1131,8 @@ static void trace_instruction(struct qemu_plugin_insn *insn, uint32_t word, unsi
 }
 
 /* What has to be told once an instruction is done, which is before the next one of its block. */
-static void trace_completion(struct qemu_plugin_insn *next, const struct qemu_plugin_insn *insn, uint32_t word, unsigned el)
+static void trace_completion(struct qemu_plugin_insn *next, const struct qemu_plugin_insn *insn, uint32_t word,
+			     unsigned el)
 {
 	if (is_barrier(word))
 		qemu_plugin_register_vcpu_insn_exec_cb(next, completed_callback, QEMU_PLUGIN_CB_NO_REGS, new_site(insn, word, el));
@@ -1146,7 +1154,8 @@ static void translation_callback(qemu_plugin_id_t id, struct qemu_plugin_tb *tb)
 	if (trace.is_over)
 		return;
 	qemu_plugin_register_vcpu_tb_exec_inline_per_vcpu(tb, QEMU_PLUGIN_INLINE_STORE_U64, storing, 0);
-	qemu_plugin_register_vcpu_tb_exec_cond_cb(tb, block_callback, QEMU_PLUGIN_CB_NO_REGS, QEMU_PLUGIN_COND_NE, pending, 0, NULL);
+	qemu_plugin_register_vcpu_tb_exec_cond_cb(tb, block_callback, QEMU_PLUGIN_CB_NO_REGS, QEMU_PLUGIN_COND_NE, pending, 0,
+						  NULL);
 	for (i = 0; i < count; i++) {
 		last = insn;
 		insn = qemu_plugin_tb_get_insn(tb, i);
@@ -1185,12 +1194,14 @@ static void end_callback(qemu_plugin_id_t id, void *data)
 
 	(void)id, (void)data;
 	pthread_mutex_lock(&trace.lock);
-	say("# told: %" PRIu64 " records, %" PRIu64 " tables, %" PRIu64 " stores to tables\n", counts->records, counts->tables, counts->stores);
+	say("# told: %" PRIu64 " records, %" PRIu64 " tables, %" PRIu64 " stores to tables\n", counts->records,
+	    counts->tables, counts->stores);
 #define TOLD(what, text) if (counts->what) say("# %" PRIu64 " %s\n", counts->what, text)
 	TOLD(late, "times a store was under way for a second at another PE: the DSB or ISB may stand too early by that store");
 	TOLD(raced, "stores found another value in memory: two PEs store to one place, and their order may be the other one");
 	TOLD(compare_failed, "compare and swaps changed nothing, and have no line");
-	TOLD(zero_untold, "DC ZVA or memory copies at addresses that a walk didn't find: they may have cleared a table unseen");
+	TOLD(zero_untold,
+	     "DC ZVA or memory copies at addresses that a walk didn't find: they may have cleared a table unseen");
 	TOLD(links_again, "links lead to a page that is a table already");
 	TOLD(outside_ram, "tables lie outside of the memory that is traced, and aren't told");
 	TOLD(other_granule, "writes of root registers are for a granule other than 4 KiB; those tables aren't told");
@@ -1217,8 +1228,8 @@ static bool interface_fits(const qemu_info_t *info)
 	}
 	if (info->version.cur == INTERFACE)
 		return true;
-	fprintf(stderr, "bbm_trace: this QEMU has version %d of the plugin interface; the plugin runs with %d, which QEMU 9.2 and 10.0 have\n",
-		info->version.cur, INTERFACE);
+	fprintf(stderr, "bbm_trace: this QEMU has version %d of the plugin interface; the plugin runs with %d, which QEMU 9.2 "
+		"and 10.0 have\n", info->version.cur, INTERFACE);
 	return false;
 }
 

@@ -3,9 +3,9 @@
  *
  *     emit/qemu/run hyp KERNEL INITRD --append vmm=SCENARIO[:TURNS],..
  *
- * Linux hands what it doesn't know of its command line on as the environment, so vmm=.. is read from there; without it each
- * scenario is run. A guest has one PE, with its MMU off. It is given some addresses to load from or to store to, does so, and
- * then stores where no memory is, which ends the run. */
+ * Linux hands what it doesn't know of its command line on as the environment, so vmm=.. is read from there; without it
+ * each scenario is run. A guest has one PE, with its MMU off. It is given some addresses to load from or to store to,
+ * does so, and then stores where no memory is, which ends the run. */
 #define _GNU_SOURCE
 #include <errno.h>
 #include <fcntl.h>
@@ -231,7 +231,8 @@ static void stress(int turns)
 int main(void)
 {
 	static const struct { const char *name; void (*run)(int); int turns; } scenarios[] = {
-		{"one", one, 6}, {"slots", slots, 2}, {"dirty", dirty, 2}, {"dontneed", dontneed, 3}, {"many", many, 8}, {"stress", stress, 5},
+		{"one", one, 6}, {"slots", slots, 2}, {"dirty", dirty, 2}, {"dontneed", dontneed, 3}, {"many", many, 8},
+		{"stress", stress, 5},
 	};
 	const size_t count = sizeof scenarios / sizeof *scenarios;
 	char all[] = "one,slots,dirty,dontneed,many,stress", *name = strtok(getenv("vmm") ? getenv("vmm") : all, ",");

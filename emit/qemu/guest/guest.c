@@ -1,8 +1,9 @@
 // SPDX-License-Identifier: Apache-2.0 OR GPL-2.0-or-later
 /* A guest without an operating system: two PEs map, unmap and remap, right and wrong.
  *
- * One boot runs one scenario, whose number QEMU's loader puts at SCENARIO: its position in the list at the end. The names
- * of the functions are what the labels of the log say. What the checker has to answer to each stands in `expected`.
+ * One boot runs one scenario, whose number QEMU's loader puts at SCENARIO: its position in the list at the end. The
+ * names of the functions are what the labels of the log say. What the checker has to answer to each stands in
+ * `expected`.
  */
 #include "../bbm_markers.h"
 #include <stdbool.h>
@@ -65,7 +66,8 @@ static inline bool compare_and_swap(u64 place, u64 old, u64 value)
 
 static u64 call_firmware(u64 function, u64 first, u64 second, u64 third)
 {
-	register u64 x0 __asm__("x0") = function, x1 __asm__("x1") = first, x2 __asm__("x2") = second, x3 __asm__("x3") = third;
+	register u64 x0 __asm__("x0") = function, x1 __asm__("x1") = first;
+	register u64 x2 __asm__("x2") = second, x3 __asm__("x3") = third;
 
 	__asm__ volatile("smc #0" : "+r"(x0) : "r"(x1), "r"(x2), "r"(x3) : "memory");
 	return x0;
@@ -897,7 +899,8 @@ static const struct scenario {
 	{ "kernel reuse_asid_without_flush", EL1, false, reuse_asid_without_flush },
 	{ "hyp stage2_remap", EL2, false, stage2_remap }, { "hyp stage2_remap_by_vmid", EL2, false, stage2_remap_by_vmid },
 	{ "hyp stage2_without_vmalle1", EL2, false, stage2_without_vmalle1 },
-	{ "hyp stage2_under_one_dsb", EL2, false, stage2_under_one_dsb }, { "hyp stage2_wrong_ipa", EL2, false, stage2_wrong_ipa },
+	{ "hyp stage2_under_one_dsb", EL2, false, stage2_under_one_dsb },
+	{ "hyp stage2_wrong_ipa", EL2, false, stage2_wrong_ipa },
 	{ "hyp stage2_under_another_vmid", EL2, false, stage2_under_another_vmid },
 	{ "hyp guest_given_up", EL2, false, guest_given_up },
 	{ "hyp guest_given_up_while_loaded", EL2, false, guest_given_up_while_loaded },
@@ -907,7 +910,8 @@ static const struct scenario {
 	{ "hyp vmids_used_up_unflushed", EL2, false, vmids_used_up_unflushed },
 	{ "kernel switch_process", EL1_ASID_IN_TTBR1, false, switch_process },
 	{ "kernel switch_process_from_the_old_root", EL1_ASID_IN_TTBR1, false, switch_process_from_the_old_root },
-	{ "stage2 host_remaps", HOST, false, host_remaps }, { "stage2 host_remaps_with_tge", HOST, false, host_remaps_with_tge },
+	{ "stage2 host_remaps", HOST, false, host_remaps },
+	{ "stage2 host_remaps_with_tge", HOST, false, host_remaps_with_tge },
 	{ "stage2 host_flushes_itself", HOST, false, host_flushes_itself },
 	{ "stage2 host_lets_a_guest_die", HOST, false, host_lets_a_guest_die },
 	{ "stage2 host_flushes_a_dead_guest", HOST, false, host_flushes_a_dead_guest },

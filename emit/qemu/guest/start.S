@@ -38,8 +38,8 @@ enter_el1:
 	isb
 	eret
 
-/* void switch_ttbrs(u64 first, u64 upper, u64 lower): TTBR0, TTBR1, TTBR0 and one ISB, by code in the upper range, since
-   the first may be an empty table. */
+/* void switch_ttbrs(u64 first, u64 upper, u64 lower): TTBR0, TTBR1, TTBR0 and one ISB, by code in the upper range,
+   since the first may be an empty table. */
 	.global switch_ttbrs
 switch_ttbrs:
 	adr	x3, 1f
