@@ -169,7 +169,7 @@ class Registers:
             return
         condition: Condition = {}
         if Stage2.OFF in (was, now):
-            # stage2-off makes it as in a host, and as with stage 2 on it is without that
+            # With stage2-off OFF is told as HOST is, and without it as ON is: the change to the other one alone is told.
             is_made = Stage2.HOST not in (was, now)
             condition = self.telling.normalised("stage2-off") if is_made else self.telling.unless("stage2-off")
         if now is Stage2.HOST:
