@@ -13,7 +13,7 @@ from enum import Enum
 from functools import cache, cached_property
 from itertools import combinations
 
-from why.asking.least import BREAK_BEFORE_MAKE, FEW, Shrinker, reduced
+from why.asking.least import BREAK_BEFORE_MAKE, Shrinker
 from why.asking.mapping import LeavesOver
 from why.asking.places import LAST_LEVEL, PAGE, phases_after
 from why.asking.program import Program, Verdict
@@ -28,7 +28,6 @@ ASKED = (BREAK_BEFORE_MAKE, TAG_CONFLICT, TABLE_MAPPED)
 # `follow` takes no more events and steps together, and a run has up to so many steps.
 MOST = MOST_EVENTS - 10
 UNTOLD = ("live", "broken")
-FLUSHING = ("tlbi", "dsb")
 
 
 class Word(Enum):
@@ -53,8 +52,7 @@ class Cause(Enum):
 @dataclass(frozen=True)
 class Danger:
     """Whether a refusal is real, with the run or the causes; of how many events it was asked, and how many there
-    are; why it isn't known where it isn't; the walk of a run that the program doesn't print, with those that were
-    tried; and whether no register write loads the root."""
+    are; why it isn't known where it isn't; and whether no register write loads the root."""
 
     word: Word
     causes: tuple[Cause, ...] = ()
@@ -62,13 +60,7 @@ class Danger:
     asked: int = 0
     events: int = 0
     why: str = ""
-    own: tuple[Walks, Walk] | None = None
     is_unloaded: bool = False
-
-    def least(self, kept: Numbers) -> Told | None:
-        """A run that the program doesn't print, over these lines and those of the others that it needs; None where
-        there is none."""
-        return least_run(*self.own, kept) if self.own else None
 
 
 # ---- of rule 4
@@ -295,29 +287,6 @@ def asked_lines(shrinker: Shrinker) -> Numbers | None:
     return None
 
 
-def over(walks: Walks, walk: Walk, numbers: set[int]) -> tuple[Walks, Walk]:
-    """The walks of these lines, and the walk there."""
-    lines = tuple(line for line in walks.lines if line.at in numbers)
-    row_of = lambda row: None if row is None else sum(line.at in numbers for line in walks.lines[:row])
-    moved = replace(walk, row=row_of(walk.row), late=row_of(walk.late), joined=row_of(walk.joined))
-    return Walks(walks.program, walks.text, lines), moved
-
-
-def least_run(walks: Walks, walk: Walk, small: Numbers) -> Told:
-    """The run over these lines, over the flushes between its reads, and over those of the others without which it isn't
-    one."""
-    between = [line.at for line in walks.lines[walk.row:walk.last] if line.event.word in FLUSHING]
-    kept = {*small, *(between if len(between) <= FEW else ()), walks.lines[-1].at}
-
-    def holds(numbers: Numbers) -> bool:
-        fewer, moved = over(walks, walk, {*numbers, *kept})
-        return fewer.followed(moved).end is End.CONFLICT
-
-    needed = reduced(walks.log, [line.at for line in walks.lines], holds)
-    fewer, moved = over(walks, walk, {*needed, *kept})
-    return Told(fewer.lines, fewer.run_of(moved))
-
-
 # ---- the whole
 
 class Asking:
@@ -341,7 +310,7 @@ class Asking:
         """What is said where the run or the causes are known; nothing of the kind where not all walks were tried."""
         asked = len(walks.lines), self.refusal.line - 1
         if walk:
-            return Danger(Word.REAL, (), Told(walks.lines, walks.run_of(walk)), *asked, own=(walks, walk))
+            return Danger(Word.REAL, (), Told(walks.lines, walks.run_of(walk)), *asked)
         if walks.is_cut:
             return Danger(Word.UNKNOWN, (), None, *asked, why="more walks are possible than are tried")
         return Danger(Word.STRICT, causes, None, *asked)

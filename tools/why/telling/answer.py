@@ -10,7 +10,7 @@ from functools import cached_property
 
 from why.asking import runs
 from why.asking.danger import Danger, asked_lines, danger_of
-from why.asking.least import BREAK_BEFORE_MAKE, reduced_in_time
+from why.asking.least import BREAK_BEFORE_MAKE
 from why.asking.program import Answer
 from why.log.lines import Line, Lines, written
 from why.log.stream import Source
@@ -24,7 +24,7 @@ from why.telling.edits import Teller
 from why.telling.faults import fault_of, plain
 from why.telling.formats import Finding, finding_of
 from why.telling.rules import cause_of, rule_of
-from why.telling.style import BOLD, Style
+from why.telling.style import BOLD, Style, ranges
 
 TOO_MANY = 400
 # The part of the time in which the lines are found that a run needs.
@@ -41,42 +41,40 @@ class Views:
     danger: Danger | None
 
 
-def with_run(study: Study, asked: list[int], steps: list[str]) -> Lines:
-    """The small log and, of the lines that were asked, those without which the run has other steps."""
-    small = {line.at for line in study.small}
-    numbers = lambda kept: sorted({*small, *kept})
-    holds = lambda kept: runs.steps_of(study.program, study.log.cut(numbers(kept))) == steps
-    more = [*(at for at in asked if at not in small), study.refusal.line]
-    return study.log.lines(numbers(reduced_in_time(study.log, more, holds, study.effort.behind(SHARE))))
-
-
-def told_run(study: Study) -> tuple[runs.Told | None, str]:
-    """The run that the program has, over the lines that it needs; or None, and what is said of that."""
+def told_run(study: Study, danger: Danger | None) -> tuple[runs.Told | None, str]:
+    """The run that the program has, or by rule 4 that which was tried, over the lines that it needs; or None, and what
+    is said of that."""
     if not study.program.has(runs.COMMAND):
         return None, f"this program has no command `{runs.COMMAND}`"
+    small, tried = [line.at for line in study.small], danger and study.refusal.rule == BREAK_BEFORE_MAKE
     try:
-        asked = list(asked_lines(study.shrinker) or sorted({*(line.at for line in study.small), *study.loading}))
-        steps = runs.steps_of(study.program, study.log.cut(asked))
-        lines = with_run(study, asked, steps) if steps else ()
-        found = runs.run_of(study.program, written(study.header, lines)) if steps else None
+        asked = study.log.lines(asked_lines(study.shrinker) or sorted({*small, *study.loading}))
+        found = runs.run_of(study.program, written(study.header, asked))
     except runs.Beyond as limit:
         return None, f"unknown, the program says `{limit}`"
-    return (runs.Told(lines, found), "") if found else (None, "the program has none for this log")
+    told = runs.Told(asked, found) if found else danger.told if tried else None
+    if told is None:
+        return None, "the program has none for this log"
+    is_over = study.effort.behind(SHARE)
+    told = runs.least_of(told, study.shrinker, small, is_over)
+    study.cut_off += ["the run has lines that it may not need"] * is_over()
+    return told, ""
+
+
+def shown_lines(study: Study, told: runs.Told | None, whole: bool) -> Lines:
+    """The lines of the lanes: the small log and what the run takes besides; or where that is asked for all lines up to
+    the refused one. Where they are too many, as where time ended before they were few, the small log alone, and of
+    that the refused line."""
+    all_lines = study.log.lines(range(2, study.refusal.line + 1)) if whole and study.refusal.line <= TOO_MANY else ()
+    choices = [all_lines, told.lines if told and not whole else (), study.small]
+    return next((lines for lines in choices if 0 < len(lines) <= TOO_MANY), study.small[-1:])
 
 
 def views_of(study: Study, whole: bool) -> Views:
-    """The lanes are those of the small log and of what the run takes besides; or where that is asked for those of all lines up to
-    the refused one, where they aren't too many. Where time ended before the small log had so few lines, they have the refused line alone. They
-    follow the old entry of the first place that the refusal is about."""
-    told, no_run = told_run(study)
+    """The lanes follow the old entry of the first place that the refusal is about."""
     danger = danger_of(study.program, study.log, study.refusal, study.shrinker)
-    if told is None and danger and danger.told and study.refusal.rule == BREAK_BEFORE_MAKE:
-        told = danger.least([line.at for line in study.small])
-    lines = study.small if whole or told is None else told.lines
-    if whole and study.refusal.line <= TOO_MANY:
-        lines = study.log.lines(range(2, study.refusal.line + 1))
-    if len(lines) > TOO_MANY:
-        lines = lines[-1:]
+    told, no_run = told_run(study, danger)
+    lines = shown_lines(study, told, whole)
     chart = lanes.chart_of(study.program, study.header, lines, study.refusal, next(iter(study.scene.places), None))
     chart, walked = decoded.marked(chart, study.log), set()
     if told and lines is told.lines:
@@ -173,8 +171,8 @@ class Parts:
         if told is None:
             return [self.head(f"A run that goes wrong: {self.views.no_run}")]
         small = {line.at for line in self.study.small}
-        more = [str(line.at) for line in told.lines if line.at not in small]
-        also = [f"over the small log and line{'s' if len(more) > 1 else ''} {', '.join(more)} besides"] if more else []
+        more = [line.at for line in told.lines if line.at not in small]
+        also = [f"over the small log and line{'s' if len(more) > 1 else ''} {ranges(more, ', ')} besides"] if more else []
         return [self.head("A run that goes wrong"), *(wrapped(text, self.style) for text in [*also, *told.told()])]
 
     def lanes(self) -> list[str]:

@@ -28,12 +28,12 @@ def style_of(stream) -> Style:
     return Style(width, colour, unicode)
 
 
-def ranges(pes: list[int]) -> str:
+def ranges(numbers: list[int], between: str = ",") -> str:
     """Numbers in order, those next to each other as FIRST-LAST."""
     parts: list[list[int]] = []
-    for pe in pes:
-        if parts and parts[-1][1] == pe - 1:
-            parts[-1][1] = pe
+    for number in numbers:
+        if parts and parts[-1][1] == number - 1:
+            parts[-1][1] = number
         else:
-            parts.append([pe, pe])
-    return ",".join(str(first) if first == last else f"{first}-{last}" for first, last in parts)
+            parts.append([number, number])
+    return between.join(str(first) if first == last else f"{first}-{last}" for first, last in parts)
