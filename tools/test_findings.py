@@ -17,6 +17,10 @@ import subprocess
 import tempfile
 
 import judging
+from why.asking.program import Program
+from why.log.lines import Log
+from why.repairs.findings import Searcher, findings_of
+from why.telling.findings import Report
 
 # ---- logs
 
@@ -151,7 +155,7 @@ class Findings:
         self.run, self.run_on, self.log_of = run, run_on, log_of
 
     def tests(self):
-        return [self.stops, self.once, self.causes_that_are_known, self.names_and_ends, self.files, self.unlocks,
+        return [self.stops, self.out_of_time, self.once, self.causes_that_are_known, self.names_and_ends, self.files, self.unlocks,
                 self.decoded, self.pages]
 
     # ---- no false green
@@ -196,6 +200,14 @@ class Findings:
         yield from (f"findings --format sarif, {name}: {fault}" for fault in faults_of_sarif(sarif))
         if fault_of_rules(sarif):
             yield f"findings --format sarif, {name}: other rules than those of its results"
+
+    def out_of_time(self):
+        """Where time ends the search for a change, that is said, and not that there is none."""
+        log, program = self.log_of(remaps([LOCAL]), HYP), Program(os.path.realpath(judging.program()))
+        findings = findings_of(Searcher(program, log, seconds=0), program.check(log), 20)
+        told = Report(Log(log), "log", findings, [])
+        if "in 0 seconds (--seconds) gets past it" not in told.text() or "bbm stopped" not in told.gcc():
+            yield f"findings without time: {told.text()}, {told.gcc()}"
 
     # ---- one bug once
 

@@ -109,7 +109,7 @@ class Options(Case):
     def test_refused(self):
         forms = {"check": "[LOG..] [--jobs N] [--format gcc|github|json]", "slow": "[LOG..]", "partial": "[LOG..]", "shrink": "[LOG..] [--least] [--rename]",
                  "why": "[LOG..] [--seconds N] [--jobs N] [--svg FILE] [--html FILE] [--whole] [--format json]", "walk": "KIND ROOT ADDR [LOG..]", "gen": "N COUNT",
-                 "findings": "[LOG..] [--jobs N] [--most N] [--known FILE] [--write-known FILE] [--html FILE] [--unlocks] [--format gcc|github|json|sarif]",
+                 "findings": "[LOG..] [--seconds N] [--jobs N] [--most N] [--known FILE] [--write-known FILE] [--html FILE] [--unlocks] [--format gcc|github|json|sarif]",
                  "pending": "[LOG..] [--pages] [--unlocks] [--at LABEL] [--nth N] [--format json]"}
         for words, told in (
             ("check --format xml", "--format xml: it may be gcc|github|json"), ("check --format", "--format needs a value"),

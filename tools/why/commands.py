@@ -2,6 +2,7 @@
 """The words. Each is given the log as a source and the options, and gives the program's status; it loads what it alone needs."""
 from __future__ import annotations
 
+import os
 import sys
 from dataclasses import dataclass
 from typing import TYPE_CHECKING
@@ -88,15 +89,20 @@ def say_why(program: Program, source: Source, asked: Asked) -> int:
 
 
 def say_findings(program: Program, source: Source, asked: Asked) -> int:
+    from why.asking.effort import processors
     from why.log.lines import Log
-    from why.repairs.findings import Findings, findings_of
+    from why.repairs.findings import Findings, Searcher, findings_of
     from why.telling import known
     from why.telling.findings import FORMS, Report
+    from why.telling.page import PART
 
     deviations = known.read(asked.known) if asked.known else []
     first = source.answer(program, "check")
     data = source.read() if first.refusal else b""
-    findings = findings_of(program, data, first, asked.most) if first.refusal else Findings.of_answer(first)
+    # (of several logs that are judged beside each other each has one run at once)
+    jobs = 1 if os.environ.get(PART) else processors()
+    searcher = Searcher(program, data, asked.seconds, jobs) if first.refusal else None
+    findings = findings_of(searcher, first, asked.most) if searcher else Findings.of_answer(first)
     unlocks = unlocks_in(program, source, findings) if asked.unlocks and findings.last.accepted else []
     report = Report(Log(data), asked.log, findings, deviations, asked.known, unlocks)
     emit(FORMS[asked.format](report))

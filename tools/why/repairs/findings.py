@@ -11,6 +11,7 @@ from dataclasses import dataclass, field, replace
 from enum import Enum
 
 from why.asking.danger import Danger, danger_of
+from why.asking.effort import SECONDS, Effort
 from why.asking.program import Answer, Program
 from why.log.lines import Log, Numbers
 from why.repairs.changes import NOTHING, Change, edited
@@ -24,6 +25,7 @@ class Stop(Enum):
     """Why a log isn't judged to its end, by what is said of it."""
 
     NO_CHANGE = "no change was found that gets past it"
+    NO_TIME = "the time was over (--seconds) before a change was found that gets past it"
     MOST = "so many changes were searched for as --most says"
     UNJUDGED = "the line can't be judged"
 
@@ -42,6 +44,11 @@ class Found:
     study: Study | None = None
     numbers: Numbers = ()
     danger: Danger | None = None
+
+    @property
+    def is_cut_off(self) -> bool:
+        """Whether time ended the search for a change."""
+        return bool(self.study and self.study.repairer.cut_off)
 
     def is_like(self, other: Found) -> bool:
         """Whether both are one wrong line of the source, met at the same make."""
@@ -115,10 +122,13 @@ def reach_of(answer: Answer, numbers: Numbers) -> int:
 
 @dataclass
 class Searcher:
-    """Judges a log on behind its refusals. `change` is all that was changed, by lines of the log that was given."""
+    """Judges a log on behind its refusals, with so many seconds for each change, and so many runs at once. `change` is
+    all that was changed, by lines of the log that was given."""
 
     program: Program
     data: bytes
+    seconds: float = SECONDS
+    jobs: int = 1
     change: Change = NOTHING
     log: Log = field(init=False)
     tail: bytes = field(init=False)
@@ -150,7 +160,8 @@ class Searcher:
     def pass_by(self, answer: Answer) -> Found:
         """Gets past a refusal by the first change of `why` that can be told by lines of the log that was given, made
         at all lines that are like its own where the log gets as far so."""
-        study, numbers = studied(self.program, self.changed, answer.refusal), self.numbers
+        effort, numbers = Effort(self.seconds, self.jobs), self.numbers
+        study = studied(self.program, self.changed, answer.refusal, effort)
         danger = danger_of(self.program, self.changed, answer.refusal, study.shrinker)
         found = Found(told_in_given(answer, numbers), None, study=study, numbers=numbers, danger=danger)
         for repair in study.repairs:
@@ -173,9 +184,9 @@ class Searcher:
         return wide
 
 
-def findings_of(program: Program, data: bytes, first: Answer, most: int) -> Findings:
+def findings_of(searcher: Searcher, first: Answer, most: int) -> Findings:
     """The findings by at most so many changes; the first answer is that to the log as it was given."""
-    searcher, found, answer, stop = Searcher(program, data), [], first, None
+    found, answer, stop = [], first, None
     for _ in range(most):
         if not answer.refusal:
             break
@@ -186,7 +197,7 @@ def findings_of(program: Program, data: bytes, first: Answer, most: int) -> Find
         else:
             found.append(new)
         if new.repair is None:
-            stop = Stop.NO_CHANGE
+            stop = Stop.NO_TIME if new.is_cut_off else Stop.NO_CHANGE
             break
         answer = searcher.answer()
     if stop is None and not answer.accepted:

@@ -75,6 +75,13 @@ class Item:
         return [text for text in (*comment, self.before, self.often, *self.decoded, *self.texts) if text]
 
 
+def nothing_by(found: Found) -> str:
+    """What is said where no change gets past a line."""
+    if not found.is_cut_off:
+        return "nothing of what is tried gets past it"
+    return f"nothing that was tried in {found.study.effort.seconds} seconds (--seconds) gets past it"
+
+
 def cause_of(cause: Cause | None, log: str) -> Finding | None:
     """The line of a cause, as what is shown of a line."""
     what = cause and f"the cause, {'behind ' * cause.is_behind}a `{cause.word}`"
@@ -121,7 +128,7 @@ class Report:
     def item(self, count: int, one: Found) -> Item:
         """What is shown of a refusal with its change."""
         refusal, cause = one.answer.refusal, cause_of(one.cause, self.name)
-        texts = self.teller.repair(one.repair)[:-1] if one.repair else ["nothing of what is tried gets past it"]
+        texts = self.teller.repair(one.repair)[:-1] if one.repair else [nothing_by(one)]
         where = {"cause": {"line": one.cause.at, "word": one.cause.word, **cause.source}} if cause else {}
         repair = self.repair(count, one, texts) if one.repair else None
         known_by = Met(str(refusal.rule), refusal.label, refusal.at, refusal.line, one.cause.label if cause else "")
@@ -143,7 +150,7 @@ class Report:
 
     def end(self) -> str:
         """Where it ends, and what the program says there."""
-        if self.findings.stop is Stop.NO_CHANGE:
+        if self.findings.stop in (Stop.NO_CHANGE, Stop.NO_TIME):
             return f"it stops at line {self.last.line}, and nothing behind that is judged"
         said = f"`{self.last.first}`, and nothing behind that is judged"
         said = "the whole log is accepted" if self.last.accepted else said
@@ -169,7 +176,7 @@ class Report:
     def ends(self) -> list[tuple[Finding, str]]:
         """What is shown of the end with its note: that the log is accepted, where there is no finding; a line that
         can't be judged; or that the search stops."""
-        if self.findings.stop in (Stop.NO_CHANGE, Stop.MOST):
+        if self.findings.stop in (Stop.NO_CHANGE, Stop.NO_TIME, Stop.MOST):
             why = f"nothing behind this line is judged: {self.findings.stop.value}"
             stopped = Verdict(formats.STOPPED, line=self.last.line, name=why, label=self.last.verdict.label)
             return [(formats.of_verdict(stopped, self.name), "")]
