@@ -67,6 +67,14 @@ def planted():
                 yield f"{bug}, seed {seed}, {at}: none gets the whole log accepted: {told}"
 
 
+def missing_clear():
+    """A clear that is missing is put in before the refused line, by its PE, with its flush."""
+    for seed, log, refusal in islice(refused("no break"), PLANTED):
+        first, pe = next(studying(log, refusal).found()).change.edits, Log(log).event(refusal.line).pe
+        if {edit.after for edit in first} != {refusal.line - 1} or not first[0].text.startswith(f"w {pe} "):
+            yield f"no break, seed {seed}: first {first}"
+
+
 def at_once():
     """Runs at once find the same changes in the same order; and none is told twice."""
     for bug in ("one DSB for two steps", "table cleared before its flush", "unmap without a flush"):
@@ -85,7 +93,7 @@ def out_of_time():
             yield f"no seconds: {found}, {study.cut_off}"
 
 
-TESTS = (planted, at_once, out_of_time)
+TESTS = (planted, missing_clear, at_once, out_of_time)
 
 
 # ---- what it takes

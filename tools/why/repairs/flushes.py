@@ -15,6 +15,8 @@ from why.log.lines import ADDRESS_BITS, Event, Line
 from why.repairs.scene import Scene
 
 SWITCHING = 5
+# Before so many barriers of its PE a clear that is missing is tried.
+CLEARED = 4
 
 
 @dataclass(frozen=True)
@@ -310,6 +312,15 @@ def whole_sequences(scene: Scene) -> Iterator[Family]:
             for text in tlbis_for(scene, kind):
                 flush = [f"tlbi {pes[-1]} {text}", f"dsb {pes[-1]} {words.COMPLETING}"]
                 yield Family(tuple(puts(scene.refused.at - 1, *scene.under_locks(*head, *flush, *tail)) for tail in tails(scene)))
+
+
+def missing_breaks(scene: Scene) -> Iterator[Family]:
+    """The clear that is missing, before a flush that the refused line's PE makes; and a whole sequence."""
+    if scene.lacks_break:
+        pe, clear = scene.event.pe, f"w {scene.event.pe} {hex(scene.event.place)} 0x0"
+        own = [line.at for line in scene.in_window("dsb") if line.event.pe == pe]
+        yield from [Family(tuple(puts(at - 1, clear) for at in own[:-CLEARED - 1:-1]))] if own else []
+        yield from whole_sequences(scene)
 
 
 def tails(scene: Scene) -> list[list[str]]:

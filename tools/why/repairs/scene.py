@@ -198,6 +198,14 @@ class Scene:
         return written[-1] if written else None
 
     @cached_property
+    def lacks_break(self) -> bool:
+        """Whether a valid value is replaced that no line cleared. Its clear belongs to the refused line then."""
+        if self.refusal.name != "break-before-make":
+            return False
+        at_place = [line for line in self.lines[:-1] if line.event.word == "w" and line.event.place == self.event.place]
+        return bool(at_place) and bool(at_place[-1].event.value & 1)
+
+    @cached_property
     def window(self) -> Lines:
         """The lines from the last write of the place on, without the refused one; else all lines."""
         since = self.last_write.at if self.last_write else 0

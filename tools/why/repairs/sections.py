@@ -107,15 +107,18 @@ class Nearness(Enum):
 
 class Home:
     """The sections of the breaks and of the refused line. The breaks are the last writes at the places that hold a
-    value; where there is none the refused line stands for them, and every line is at home."""
+    value; where there is none the refused line stands for them, and every line is at home. It does so, too, under a lock
+    where the break is what is missing."""
 
     def __init__(self, log: Log, scene: Scene):
         self.log, self.scene = log, scene
         written = [one.last_write.at for one in (scene, *scene.narrowed) if one.last_write]
-        self.breaks = written or [scene.refused.at]
-        self.at_breaks = [part for at in written for part in sections(log, at)]
-        self.parts = [*self.at_breaks, *sections(log, scene.refused.at)]
-        self.is_everywhere = not written
+        self.since, self.is_everywhere = min(written, default=scene.refused.at), not written
+        at_refused = sections(log, scene.refused.at)
+        self.lacks_break = scene.lacks_break and at_refused[0].pe is not None
+        self.breaks = [scene.refused.at] if self.lacks_break else written or [scene.refused.at]
+        self.at_breaks = at_refused if self.lacks_break else [part for at in written for part in sections(log, at)]
+        self.parts = [*self.at_breaks, *at_refused]
 
     def __contains__(self, at: int) -> bool:
         return self.is_everywhere or any(part.has(at, self.log.event(at).pe) for part in self.parts)
@@ -130,8 +133,8 @@ class Home:
         where every line is at home."""
         if self.is_everywhere:
             return []
-        own = {*self.flushing(min(self.breaks))}
-        is_other = lambda at: at > min(self.breaks) and self.log.event(at).word in FLUSHING and at not in own
+        own = {*self.flushing(self.since)}
+        is_other = lambda at: at > self.since and self.log.event(at).word in FLUSHING and at not in own
         return sorted(own | {at for at in numbers if not is_other(at)})
 
     def nearness(self, change: Change) -> Nearness:
@@ -151,6 +154,8 @@ class Home:
         if edit.kind is Kind.HEADER or self.is_everywhere:
             return not (self.scene.is_about_left and takes_over(edit))
         if isinstance(edit, Put):
+            if self.lacks_break and edit.text.startswith("w "):
+                return self.is_put(edit, self.at_breaks)
             return not is_flush(edit) or self.is_put(edit, self.parts)
         refused, event = self.scene.refused, self.log.line(edit.at).event
         if isinstance(edit, Move) and edit.at == refused.at:

@@ -14,7 +14,7 @@ from why.log import words
 from why.log.lines import ADDRESS_BITS, PAGE_BYTES, Header, Line
 from why.repairs.changes import Change, Drop, Kind, Move, Swap, one, puts
 from why.repairs.flushes import Family, away, broadcast, elsewhere, is_about_tags, loading, operands, sequences
-from why.repairs.flushes import tlbis_for, under_its_vmid, whole_sequences, with_pe, with_words
+from why.repairs.flushes import missing_breaks, tlbis_for, under_its_vmid, whole_sequences, with_pe, with_words
 from why.repairs.scene import Scene
 
 NEAR = 8
@@ -362,6 +362,7 @@ def first_families(scene: Scene) -> Iterator[Family]:
     for one_scene in (scene, *scene.narrowed):
         yield from broadcast(one_scene)
         yield from under_its_vmid(one_scene)
+    yield from missing_breaks(scene)
 
 
 def largest(scene: Scene) -> Iterator[Family]:
