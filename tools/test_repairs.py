@@ -17,9 +17,11 @@ from itertools import count, islice
 import hypervisor
 import judging
 from why.asking.effort import Effort, processors
+from why.asking.least import FEW
 from why.asking.program import Program
 from why.log.lines import Log
 from why.repairs.study import Studying
+from why.telling.answer import views_of
 from why.telling.edits import Teller
 
 PROGRAM = os.path.realpath(judging.program())
@@ -93,7 +95,18 @@ def out_of_time():
             yield f"no seconds: {found}, {study.cut_off}"
 
 
-TESTS = (planted, missing_clear, at_once, out_of_time)
+def few_lines():
+    """The run of a log with locks is told over few lines, which the program refuses alike."""
+    for seed, log, refusal in islice(refused("lock dropped early"), 1):
+        under_way = studying(log, refusal)
+        list(under_way.found())
+        told = views_of(under_way.ended(), False).told
+        lines = [line.at for line in told.lines] if told else []
+        if not 0 < len(lines) <= FEW or not under_way.shrinker.holds(lines):
+            yield f"lock dropped early, seed {seed}: the run is over lines {lines}"
+
+
+TESTS = (planted, missing_clear, at_once, out_of_time, few_lines)
 
 
 # ---- what it takes

@@ -171,11 +171,16 @@ def is_run(program: Program, header: str, told: Told) -> bool:
 
 
 def least_of(told: Told, shrinker: Shrinker, small: Numbers, is_over: Callable[[], bool]) -> Told:
-    """The run over the small log, and over those of the other lines without which it is none; more of them where the
-    time is over."""
+    """The run over the small log, and over those of the other lines without which it is none, or the last isn't refused
+    alike; more of them where the time is over."""
     asked, kept = {line.at for line in told.lines}, {*small, *told.moments()}
     some = lambda numbers: told.over(asked & {*numbers, *kept})
-    holds = lambda numbers: is_run(shrinker.program, shrinker.log.header, some(numbers))
+
+    def holds(numbers: Numbers) -> bool:
+        fewer = some(numbers)
+        is_alike = shrinker.holds([line.at for line in fewer.lines])
+        return is_alike and is_run(shrinker.program, shrinker.log.header, fewer)
+
     fronts = chain([small], shrinker.fronts(shrinker.refusal.line))
     tries = ([at for at in numbers if at in asked] for numbers in fronts)
     start = next((numbers for count, numbers in enumerate(tries) if not (count and is_over()) and holds(numbers)), None)
