@@ -41,7 +41,7 @@ class Views:
     danger: Danger | None
 
 
-def told_run(study: Study, danger: Danger | None) -> tuple[runs.Told | None, str]:
+def told_run(study: Study, danger: Danger | None = None) -> tuple[runs.Told | None, str]:
     """The run that the program has, or by rule 4 that which was tried, over the lines that it needs; or None, and what
     is said of that."""
     if not study.program.has(runs.COMMAND):
