@@ -115,7 +115,10 @@ class Home:
         written = [one.last_write.at for one in (scene, *scene.narrowed) if one.last_write]
         self.since, self.is_everywhere = min(written, default=scene.refused.at), not written
         at_refused = sections(log, scene.refused.at)
-        self.lacks_break = scene.lacks_break and at_refused[0].pe is not None
+        self.is_locked_make = scene.refusal.name == "break-before-make" and at_refused[0].pe is not None
+        self.lacks_break = scene.lacks_break and self.is_locked_make
+        cleared = [at for at in written if not log.event(at).value & 1]
+        self.at_clears = [*at_refused, *(part for at in cleared for part in sections(log, at))]
         self.breaks = [scene.refused.at] if self.lacks_break else written or [scene.refused.at]
         self.at_breaks = at_refused if self.lacks_break else [part for at in written for part in sections(log, at)]
         self.parts = [*self.at_breaks, *at_refused]
@@ -154,8 +157,8 @@ class Home:
         if edit.kind is Kind.HEADER or self.is_everywhere:
             return not (self.scene.is_about_left and takes_over(edit))
         if isinstance(edit, Put):
-            if self.lacks_break and edit.text.startswith("w "):
-                return self.is_put(edit, self.at_breaks)
+            if self.is_locked_make and edit.text.startswith("w "):
+                return self.is_put(edit, self.at_clears)
             return not is_flush(edit) or self.is_put(edit, self.parts)
         refused, event = self.scene.refused, self.log.line(edit.at).event
         if isinstance(edit, Move) and edit.at == refused.at:
