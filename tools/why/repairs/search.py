@@ -12,7 +12,7 @@ from itertools import islice
 from why.asking.effort import Effort
 from why.asking.program import Answer, Program
 from why.log.lines import Log, Numbers, event_of
-from why.repairs.changes import NOTHING, Change, Edit, Kind, Move, Put, Swap, position_of
+from why.repairs.changes import FLUSHING, NOTHING, Change, Edit, Kind, Move, Put, Swap, position_of
 from why.repairs.flushes import Family, is_about_tags
 from why.repairs.judge import Judge, Repair
 from why.repairs.scene import Scene
@@ -97,7 +97,8 @@ class Repairer:
     def stands_alone(self, change: Change) -> bool:
         """Whether a change passes without the barriers and TLBIs of other sections behind the break, where it can be
         asked so and it is about such."""
-        if not self.alone or not change.flushes:
+        moves_flush = any(isinstance(edit, Move) and self.log.event(edit.at).word in FLUSHING for edit in change.edits)
+        if not self.alone or not (change.flushes or moves_flush):
             return self.passes(change)
         return self.judge.in_lines(change, sorted({*self.alone, *change.touched})).accepted
 
