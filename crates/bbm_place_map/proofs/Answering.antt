@@ -1,8 +1,8 @@
 -- One entry that a DSB answered, among the others.
 use Rattle.bbm_place_map.proofs.Common.{◌≡◌, ◌≢◌, ℕ, nat_eq, List, Option, Some, None, refl, ap, sym, subst, ◌∙◌}
 use Rattle.bbm_place_map.proofs.Common.{if◌then◌else◌, slice_get, Completed, Clean, Broken}
-use Rattle.bbm_place_map.proofs.Common.{Completes, loses_table, is_table, pends_in, no_pends, position, cell_at}
-use Rattle.bbm_place_map.proofs.Common.{entry_of, entry_in, marks_of, marks_in, Linked, Entry, Barrier, with_true}
+use Rattle.bbm_place_map.proofs.Common.{Completes, loses, next_of, pends_in, no_pends, position, cell_at}
+use Rattle.bbm_place_map.proofs.Common.{entry_of, entry_in, marks_of, marks_in, Linked, Entry, Barrier}
 use Rattle.bbm_place_map.proofs.Common.{put_here, put_away}
 use Rattle.bbm_place_map.proofs.Idle.{nothing_waits}
 use Rattle.bbm_place_map.proofs.Positions.{cells_same, positions_changed, entries_changed}
@@ -28,7 +28,7 @@ module _ (by : Barrier) (cells : List ℕ) (entries mid : List Entry) (k : ℕ) 
       → ((j : ℕ) → cell_at mid k ≡ Some j → (i : ℕ) → entry_in cells' entries' i ≡ (if nat_eq i j then None else entry_in cells mid i))
       → Completed (Broken e.marks) (pends_in e.pends.items by.issuer) by.dsb by.n Clean no_pends
       → Completes by (entry_in cells entries j) (entry_in cells' entries' j)
-      × (is_table e.marks.core ≡ loses_table (marks_in cells entries j) (marks_in cells' entries' j))
+      × (next_of e.marks.core ≡ loses (marks_in cells entries j) (marks_in cells' entries' j))
       × ((i : ℕ) → i ≢ j → entry_in cells' entries' i ≡ entry_in cells entries i)
   here_gone cells' entries' gone done =
       let is = gone j (cells_same entries mid (positions_changed cells entries mid e f j k linked (linked.back j k at) was seated gets) k ∙ at) in
@@ -37,8 +37,7 @@ module _ (by : Barrier) (cells : List ℕ) (entries mid : List Entry) (k : ℕ) 
           own = done;
           others = λ q other. nothing_waits;
         }),
-        with_true (is_table e.marks.core)
-            ∙ sym (ap (λ (o : Option Entry). loses_table (marks_of o) (marks_in cells' entries' j)) old_entry
-            ∙ ap (λ (o : Option Entry). loses_table (Some e.marks) (marks_of o)) none),
+        sym (ap (λ (o : Option Entry). loses (marks_of o) (marks_in cells' entries' j)) old_entry
+            ∙ ap (λ (o : Option Entry). loses (Some e.marks) (marks_of o)) none),
         λ i other. put_away _ _ is i other ∙ put_away _ _ mid_is i other,
       )

@@ -41,7 +41,7 @@ pub use Rattle.bbm_lemmas.specs.EveryPe.{every_pe}
 pub use Rattle.bbm_place_map.proofs.Points.{either, if_then, put_away, put_here, split_at, split_by}
 pub use Rattle.bbm_place_map.specs.Cells.{cell_by, in_page, is_listed, number_of, slot_in, value_in}
 pub use Rattle.bbm_place_map.specs.Dsbs.{IsHeard, IsUnanswered}
-pub use Rattle.bbm_place_map.specs.Each.{Advances, Completes, Does, MayDo, Publishes, is_table, loses_table}
+pub use Rattle.bbm_place_map.specs.Each.{Advances, Completes, Does, MayDo, Publishes, loses, next_of}
 pub use Rattle.bbm_place_map.specs.Entries.{Adds, HasRoom, IsFirst, Lacks, WaitsAlike, cell_at, entry_in, entry_of}
 pub use Rattle.bbm_place_map.specs.Entries.{lane_of, marks_of, no_pend, no_pends, pend_in, pends_in, pends_of, position}
 pub use Rattle.bbm_place_map.specs.Entries.{position_at}

@@ -1,7 +1,8 @@
 -- What a DSB leaves of each place that it visits.
 use Rattle.bbm_place_map.proofs.Common.{◌≡◌, ℕ, Bool, true, false, List, Some, None, Option, refl, ap, sym, subst, ◌∙◌}
-use Rattle.bbm_place_map.proofs.Common.{Does, HoldsFor, Rests, loses_table, entry_of_cell, marks_of, at_index, cell_by}
-use Rattle.bbm_place_map.proofs.Common.{Entries, Barrier, Effect, Complete, Publish, IsSound}
+use Rattle.bbm_place_map.proofs.Common.{Does, HoldsFor, Rests, loses, Contains, none-some, entry_of_cell, marks_of, at_index, cell_by}
+use Rattle.bbm_place_map.proofs.Common.{arith, count_by-le-length, is_listed, length, ◌≤◌, ◌*◌}
+use Rattle.bbm_place_map.proofs.Common.{Entries, Entry, Barrier, Effect, Complete, Publish, IsSound}
 use Rattle.bbm_place_map.proofs.Common.{Marks, Work, WorkList, Vec, Global}
 use Rattle.bbm_place_map.proofs.Common.{is_clean, PeMask, ◌⊎◌, ◌≢◌, either, IsTold, Stays, ◌<◌}
 use Rattle.bbm_place_map.specs.Dsbs.{HasEffect, HoldOpen, IsSettled, loses_at}
@@ -21,22 +22,28 @@ module _ (by : Barrier) {parts : List ℕ} {old new : Entries} (sound : IsSound 
       by_cells sound sound' (Does by.effect by) j
       (at_each (Does by.effect by) None (entry_of_cell old) (entry_of_cell new) (does_none by.effect by) each (cell_by parts j))
 
-  pub visited_lost : (c : ℕ) × (loses_at old new c ≡ true)
-      → (j : ℕ) × (loses_table (marks_of (entry_by old.list.items j)) (marks_of (entry_by new.list.items j)) ≡ true)
-  visited_lost w =
-      let e = entry_lost (entry_of_cell old w.0) (marks_of (entry_of_cell new w.0)) w.1 in
+  pub visited_lost : (page : ℕ) → (c : ℕ) × (loses_at old new c ≡ Some page)
+      → (j : ℕ) × (loses (marks_of (entry_by old.list.items j)) (marks_of (entry_by new.list.items j)) ≡ Some page)
+  visited_lost page w =
+      let e = entry_lost (entry_of_cell old w.0) (marks_of (entry_of_cell new w.0)) page w.1 in
       let s = seat_of old.linked w.0 e.0 e.1 in
       let here : cell_by parts e.0.index ≡ Some w.0 = sound.seated s.0 e.0 s.2 ∙ ap (λ (n : ℕ). Some n) s.3 in (
         e.0.index,
-        by_cells sound sound' (λ o p. loses_table (marks_of o) (marks_of p) ≡ true) e.0.index
-            (ap (λ (o : Option ℕ). loses_table (marks_of (at_index None (entry_of_cell old) o)) (marks_of (at_index None (entry_of_cell new) o))) here ∙ w.1),
+        by_cells sound sound' (λ o p. loses (marks_of o) (marks_of p) ≡ Some page) e.0.index
+            (ap (λ (o : Option ℕ). loses (marks_of (at_index None (entry_of_cell old) o)) (marks_of (at_index None (entry_of_cell new) o))) here ∙ w.1),
       )
 
-  pub visited_kept : ((c : ℕ) → loses_at old new c ≡ false) → (j : ℕ)
-      → loses_table (marks_of (entry_by old.list.items j)) (marks_of (entry_by new.list.items j)) ≡ false
-  visited_kept kept j =
-      by_cells sound sound' (λ o p. loses_table (marks_of o) (marks_of p) ≡ false) j
-      (at_each (λ o p. loses_table (marks_of o) (marks_of p) ≡ false) None (entry_of_cell old) (entry_of_cell new) refl kept (cell_by parts j))
+  pub visited_told : (pages : List ℕ) → ((c page : ℕ) → loses_at old new c ≡ Some page → Contains pages page) → (j page : ℕ)
+      → loses (marks_of (entry_by old.list.items j)) (marks_of (entry_by new.list.items j)) ≡ Some page → Contains pages page
+  visited_told pages told j page =
+      let P : Option Entry → Option Entry → Type 0 = λ o p. loses (marks_of o) (marks_of p) ≡ Some page → Contains pages page in
+      by_cells sound sound' P j
+      (at_each P None (entry_of_cell old) (entry_of_cell new) (λ h. absurd (none-some page h)) (λ c. told c page) (cell_by parts j))
+
+-- there are no more entries than places
+pub entries_few : {parts : List ℕ} {entries : Entries} → IsSound parts entries → length entries.list.items ≤ 512 * length parts
+entries_few {parts} {entries} sound =
+    omega (arith, sound.some, entries.linked.count, count_by-le-length is_listed parts, count_by-le-length is_listed entries.cells.items)
 
 -- what the lists know before, and after
 module _ (w : Work) (by : Barrier) (old : Entries) (number : w.pes ≡ by.n) (listed : Listed w old.cells.items old.list.items) where

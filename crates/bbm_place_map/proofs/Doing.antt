@@ -4,12 +4,11 @@ use Rattle.bbm_place_map.proofs.Common.{refl}
 use Rattle.bbm_place_map.proofs.Common.{ap, sym, subst, ◌∙◌, inl, inr, false≢true, same_Some, none-some, and-false}
 use Rattle.bbm_place_map.proofs.Common.{pe_in}
 use Rattle.bbm_place_map.proofs.Common.{answers_local, PeMask, Marks, Broken, Core, Does, MayDo, Publishes}
-use Rattle.bbm_place_map.proofs.Common.{Complete, Publish, Effect, loses_table, is_table, marks_of, pends_in, pends_of}
+use Rattle.bbm_place_map.proofs.Common.{Complete, Publish, Effect, loses, next_of, ◌⊎◌, marks_of, pends_in, pends_of}
 use Rattle.bbm_place_map.proofs.Common.{Rests, Stays, is_clean, Entry, Barrier}
 use Rattle.std.proofs.Common.{is_none}
 use Rattle.bbm_barriers.specs.Options.{is_non}
 use Rattle.bbm_place_map.specs.Dsbs.{HasEffect, IsAudience, IsBusy}
-use Rattle.bbm_place_map.specs.Each.{has_table}
 use Rattle.bbm_place_map.proofs.Advancing.{advance_then, self_advances}
 use Rattle.bbm_place_map.proofs.Completing.{completes_none}
 use Rattle.bbm_place_map.proofs.Resting.{answers_within, core_kept, no_answer, none_stays, quiet_answered, quiet_kept}
@@ -46,39 +45,38 @@ pub does_again : (effect : Effect) (by : Barrier) (o p r : Option Entry) → May
 does_again effect by o p r (inl same) h = does_at effect by o p r r (sym same) refl h
 does_again effect by o p r (inr did) h = does_twice effect by o p r did h
 
--- a table that left stays away, and where none left none left at all
+-- a table that left stays away, and each that left did so before or now
 module _ (effect : Effect) (by : Barrier) where
-  pub lost_stays : (s p r : Option Entry) → Does effect by p r → loses_table (marks_of s) (marks_of p) ≡ true
-      → loses_table (marks_of s) (marks_of r) ≡ true
-  lost_stays s None None h lost = lost
-  lost_stays s None (Some g) h lost = absurd (none_becomes effect by g h)
-  lost_stays s (Some f) r h lost = absurd (false≢true (sym (and-false (has_table (marks_of s))) ∙ lost))
+  pub lost_stays : (s p r : Option Entry) (page : ℕ) → Does effect by p r → loses (marks_of s) (marks_of p) ≡ Some page
+      → loses (marks_of s) (marks_of r) ≡ Some page
+  lost_stays s None None page h lost = lost
+  lost_stays s None (Some g) page h lost = absurd (none_becomes effect by g h)
+  lost_stays s (Some f) r page h lost = absurd (none-some page lost)
 
-  pub none_lost : (s p r : Option Entry) → MayDo effect by s p → Does effect by p r
-      → loses_table (marks_of s) (marks_of p) ≡ false → loses_table (marks_of p) (marks_of r) ≡ false
-      → loses_table (marks_of s) (marks_of r) ≡ false
-  none_lost None p r may h none none' = refl
-  none_lost (Some e) p (Some g) may h none none' = and-false (is_table e.marks.core)
-  none_lost (Some e) None None may h none none' = none
-  none_lost (Some e) (Some f) None may h none none' =
+  next_kept : (e f : Entry) → MayDo effect by (Some e) (Some f) → next_of f.marks.core ≡ next_of e.marks.core
+  next_kept e f may =
       elim may [
-        | inl same ↦ ap (λ (x : Entry). is_table x.marks.core && true) (sym (same_Some f e same)) ∙ none'
-        | inr did ↦ ap (λ (x : Core). is_table x && true) (sym (core_stays effect by e f did)) ∙ none'
+        | inl same ↦ ap (λ (x : Entry). next_of x.marks.core) (same_Some f e same)
+        | inr did ↦ ap next_of (core_stays effect by e f did)
       ]
 
-  pub lost_here : (s p r : Option Entry) → MayDo effect by s p → loses_table (marks_of p) (marks_of r) ≡ true
-      → loses_table (marks_of s) (marks_of r) ≡ true
-  lost_here s None r may lost = absurd (false≢true lost)
-  lost_here None (Some f) r may lost =
+  pub lost_once : (s p r : Option Entry) (page : ℕ) → MayDo effect by s p → loses (marks_of s) (marks_of r) ≡ Some page
+      → (loses (marks_of s) (marks_of p) ≡ Some page) ⊎ (loses (marks_of p) (marks_of r) ≡ Some page)
+  lost_once s p (Some g) page may lost = absurd (none-some page lost)
+  lost_once s None None page may lost = inl lost
+  lost_once None (Some f) None page may lost = absurd (none-some page lost)
+  lost_once (Some e) (Some f) None page may lost = inr (next_kept e f may ∙ lost)
+
+  pub lost_here : (s p r : Option Entry) (page : ℕ) → MayDo effect by s p → loses (marks_of p) (marks_of r) ≡ Some page
+      → loses (marks_of s) (marks_of r) ≡ Some page
+  lost_here s p (Some g) page may lost = absurd (none-some page lost)
+  lost_here s None None page may lost = absurd (none-some page lost)
+  lost_here None (Some f) None page may lost =
       elim may [
         | inl same ↦ absurd (none-some f (sym same))
         | inr did ↦ absurd (none_becomes effect by f did)
       ]
-  lost_here (Some e) (Some f) r may lost =
-      elim may [
-        | inl same ↦ ap (λ (x : Entry). is_table x.marks.core && is_none (marks_of r)) (sym (same_Some f e same)) ∙ lost
-        | inr did ↦ ap (λ (x : Core). is_table x && is_none (marks_of r)) (sym (core_stays effect by e f did)) ∙ lost
-      ]
+  lost_here (Some e) (Some f) None page may lost = sym (next_kept e f may) ∙ lost
 
 -- a DSB that publishes to no PE, or answers no TLBI
 pub idle_publish : (by : Barrier) (heard : PeMask) → IsAudience by heard → ((p : ℕ) → pe_in heard p ≡ false) → (o : Option Entry)

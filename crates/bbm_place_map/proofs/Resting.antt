@@ -4,7 +4,7 @@ use Rattle.bbm_place_map.proofs.Common.{refl, ap, sym, ◌∙◌, if◌then◌el
 use Rattle.bbm_place_map.proofs.Common.{none-some, fun_ext, proved, If, Is, Dsb, answers, answers_broadcast}
 use Rattle.bbm_place_map.proofs.Common.{answers_local, Core, every_pe, Cover, Half, Second, Full, answered_at}
 use Rattle.bbm_place_map.proofs.Common.{clean_after, waits, core_in, Marks, Pends, Broken, IsUnanswered, Completes}
-use Rattle.bbm_place_map.proofs.Common.{loses_table, is_table, pends_in, pends_of, marks_of, state_from, IsQuiet}
+use Rattle.bbm_place_map.proofs.Common.{loses, pends_in, pends_of, marks_of, state_from, IsQuiet}
 use Rattle.bbm_place_map.proofs.Common.{IsTold, is_clean, Entry, Barrier, and-false, subst, ◌⊎◌, pe_in}
 use Rattle.bbm_place_map.proofs.Common.{either}
 use Rattle.bbm_barriers.specs.Options.{completed, has_broadcast, has_local, is_non, Completed as Answers}
@@ -25,10 +25,10 @@ none_answered = proved 2 (λ a w. Is (a && (not a && w)) false) refl
 or_none : (x y : Bool) → (x || (y && false)) ≡ x
 or_none = proved 2 (λ x y. Is (x || (y && false)) x) refl
 
--- an entry that stays is no table that left
-pub stays_kept : (o : Option Entry) → loses_table (marks_of o) (marks_of o) ≡ false
+-- where nothing changes no table leaves
+pub stays_kept : (o : Option Entry) → loses (marks_of o) (marks_of o) ≡ None
 stays_kept None = refl
-stays_kept (Some e) = and-false (is_table e.marks.core)
+stays_kept (Some e) = refl
 
 waits_on : (a w : Bool) → (a && w) ≡ false → w ≡ (not a && w)
 waits_on = proved 2 (λ a w. If (Is (a && w) false) (Is w (not a && w))) refl

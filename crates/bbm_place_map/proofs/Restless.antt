@@ -1,7 +1,7 @@
 -- The entries are those of the broken places.
 use Rattle.bbm_place_map.proofs.Bases.{numbered_in}
 use Rattle.bbm_place_map.proofs.Common.{◌≡◌, ℕ, ◌<◌, ◌%◌, true, List, length, Option, Some, None, is_some, refl, ap}
-use Rattle.bbm_place_map.proofs.Common.{sym, bases, loses_table, IsOnce, ◌∙◌, slice_get, unwrap_or, option_map}
+use Rattle.bbm_place_map.proofs.Common.{sym, bases, loses, IsOnce, ◌∙◌, slice_get, unwrap_or, option_map}
 use Rattle.bbm_place_map.proofs.Common.{false≢true, same_Some, none-some, slice_get_within, entry_at, number_at}
 use Rattle.bbm_place_map.proofs.Common.{marks_of, pends_of, no_pends, place_entry, index_of, at_index, entry_of, Entry}
 use Rattle.bbm_place_map.proofs.Common.{PlaceMap, vec_len}
@@ -51,14 +51,14 @@ module _ (map : PlaceMap) where
       ap (λ (n : ℕ). n % 8) (sym s.2) ∙ (found (bases map.pages) e.place e.index (map.placed s.0 e s.1)).aligned)
 
   -- a place that lost a table
-  pub lost_place : (new : ℕ → Option Entry) (j : ℕ) → loses_table (marks_of (entry_at map.broken j)) (marks_of (new j)) ≡ true
-      → (a : ℕ) × (loses_table (marks_of (place_entry map a)) (marks_of (at_index None new (index_of (bases map.pages) a))) ≡ true)
-  lost_place new j h =
-      let e = entry_lost (entry_at map.broken j) (marks_of (new j)) h in
+  pub lost_place : (new : ℕ → Option Entry) (j page : ℕ) → loses (marks_of (entry_at map.broken j)) (marks_of (new j)) ≡ Some page
+      → (a : ℕ) × (loses (marks_of (place_entry map a)) (marks_of (at_index None new (index_of (bases map.pages) a))) ≡ Some page)
+  lost_place new j page h =
+      let e = entry_lost (entry_at map.broken j) (marks_of (new j)) page h in
       let s = seat_at map.broken j e.0 e.1 in
       let here : index_of (bases map.pages) e.0.place ≡ Some j = map.placed s.0 e.0 s.1 ∙ ap (λ (n : ℕ). Some n) s.2 in (
         e.0.place,
-        ap (λ (o : Option ℕ). loses_table (marks_of (at_index None (entry_at map.broken) o)) (marks_of (at_index None new o))) here ∙ h,
+        ap (λ (o : Option ℕ). loses (marks_of (at_index None (entry_at map.broken) o)) (marks_of (at_index None new o))) here ∙ h,
       )
 
   -- where each place has one entry, an entry is that of its place

@@ -1,7 +1,7 @@
 -- Cells and the entries that they name.
 use Rattle.bbm_place_map.proofs.Common.{List, None, Option, Some, ap, refl, slice_get, sym, ℕ, ◌∙◌, ◌≡◌, same_Some}
 use Rattle.bbm_place_map.proofs.Common.{option_map, Marks, slot_in, entry_in, entry_of, marks_of, Linked, Entry}
-use Rattle.bbm_place_map.proofs.Common.{false≢true, loses_table, true, length, slice_get_cases, arith, inl, inr, ◌<◌}
+use Rattle.bbm_place_map.proofs.Common.{loses, none-some, length, slice_get_cases, arith, inl, inr, ◌<◌}
 
 abbrev pub the_cell : Entry → ℕ
 the_cell e = e.cell
@@ -20,9 +20,10 @@ marked None marks is = cc
 marked (Some e) marks is = (e, refl, same_Some e.marks marks is)
 
 -- an entry that lost a table was there
-pub entry_lost : (o : Option Entry) (new : Option Marks) → loses_table (marks_of o) new ≡ true → (e : Entry) × (o ≡ Some e)
-entry_lost None new h = absurd (false≢true h)
-entry_lost (Some e) new h = (e, refl)
+pub entry_lost : (o : Option Entry) (new : Option Marks) (page : ℕ) → loses (marks_of o) new ≡ Some page → (e : Entry) × (o ≡ Some e)
+entry_lost None None page h = absurd (none-some page h)
+entry_lost None (Some m) page h = absurd (none-some page h)
+entry_lost (Some e) new page h = (e, refl)
 
 -- there is an entry with each number below that of all
 pub entry_there : (entries : List Entry) (i : ℕ) → i < length entries → (e : Entry) × (slice_get entries i ≡ Some e)

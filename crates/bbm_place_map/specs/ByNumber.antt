@@ -1,10 +1,10 @@
 -- What is kept of the broken places, by the numbers of their values, and what calls change of them.
 -- Source: project's own choice.
-use Rattle.std.specs.Prelude.{◌≡◌, ℕ, ◌*◌, ◌⊎◌, Bool, true, false, Option, Some, None, nat_eq}
+use Rattle.std.specs.Prelude.{◌≡◌, ℕ, ◌*◌, ◌⊎◌, Bool, Contains, Option, Some, None, nat_eq}
 use Rattle.std.specs.Prelude.{List, length, slice_get, if◌then◌else◌}
 use Rattle.bbm_entry_state.specs.declared.marks.Marks.{Marks}
 use Rattle.bbm_place_map.specs.Dsbs.{KeepsSeats}
-use Rattle.bbm_place_map.specs.Each.{Advances, Does, loses_table}
+use Rattle.bbm_place_map.specs.Each.{Advances, Does, loses}
 use Rattle.bbm_place_map.specs.Entries.{ChangesAt, entry_of, marks_of, number_by, pends_in, pends_of}
 use Rattle.bbm_place_map.specs.Puts.{AreSeated, WasSeated}
 use Rattle.bbm_place_map.specs.Sound.{Numbered, Placed, at_index, index_of}
@@ -19,6 +19,8 @@ pub record BrokenMap : Type 0 where
   pub has_room : Bool
   -- what is kept of each broken place, in the order in which they stand
   pub entries : List Entry
+  -- the next pages of the tables that the last DSB took out
+  pub lost : List ℕ
 
 -- the number of the entry of a value's place, and the entry; None where the place isn't broken
 abbrev pub number_at : BrokenMap → ℕ → Option ℕ
@@ -47,6 +49,7 @@ pub record Breaks (j place : ℕ) (by : Marks) (old new : BrokenMap) : Type 0 wh
 -- These places aren't broken, and nothing waits there. The rest stays.
 pub record Clears (these : ℕ → Bool) (old new : BrokenMap) : Type 0 where
   pub pages : new.pages ≡ old.pages
+  pub lost : new.lost ≡ old.lost
   pub seats : AreSeated old.entries new.entries
   pub entries : (i : ℕ) → entry_at new i ≡ (if these i then None else entry_at old i)
 
@@ -75,11 +78,14 @@ pub record IsKept (base : ℕ → Option ℕ) (broken : BrokenMap) : Type 0 wher
   pub numbered : Numbered base (512 * broken.pages)
   pub placed : Placed base broken.entries
 
--- A DSB visited each broken place, and told whether one over a table left.
-pub record VisitsPlaces (by : Barrier) (old new : BrokenMap) (told : Bool) : Type 0 where
+-- A DSB visited each broken place. The lost pages are the next pages of the tables that places aren't broken over any
+-- more.
+pub record VisitsPlaces (by : Barrier) (old new : BrokenMap) : Type 0 where
   pub pages : new.pages ≡ old.pages
   pub seats : AreSeated old.entries new.entries
   pub order : KeepsSeats by.effect old.entries new.entries
   pub each : (j : ℕ) → Does by.effect by (entry_at old j) (entry_at new j)
-  pub lost : told ≡ true → (j : ℕ) × (loses_table (marks_of (entry_at old j)) (marks_of (entry_at new j)) ≡ true)
-  pub kept : told ≡ false → (j : ℕ) → loses_table (marks_of (entry_at old j)) (marks_of (entry_at new j)) ≡ false
+  pub lost : (page : ℕ) → Contains new.lost page
+      → (j : ℕ) × (loses (marks_of (entry_at old j)) (marks_of (entry_at new j)) ≡ Some page)
+  pub told : (j page : ℕ) → loses (marks_of (entry_at old j)) (marks_of (entry_at new j)) ≡ Some page
+      → Contains new.lost page

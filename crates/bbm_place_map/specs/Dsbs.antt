@@ -1,7 +1,8 @@
 -- What a DSB finds and leaves: cells and entries, and the list of its PE.
 -- Source: project's own choice.
 use Rattle.std.specs.Prelude.{◌≡◌, ◌≢◌, ◌≤◌, ◌<◌, ◌⊎◌, ◌+◌, ℕ, Bool, true, false, Some, List}
-use Rattle.std.specs.Prelude.{slice_get, length, not, ◌&&◌}
+use Rattle.std.specs.Prelude.{slice_get, length, not, ◌&&◌, Contains, Option, Vec, vec_capacity, vec_len}
+use Rattle.std.specs.declared.alloc.Global.{Global}
 use Rattle.bbm_barriers.specs.declared.Dsb.{Dsb}
 use Rattle.bbm_barriers.specs.Options.{answers, publishes}
 use Rattle.bbm_regimes.specs.PeMask.{pe_in}
@@ -12,7 +13,7 @@ use Rattle.bbm_entry_state.specs.Points.{waits, waits_in}
 use Rattle.bbm_entry_state.specs.declared.marks.Marks.{Marks}
 use Rattle.bbm_entry_state.specs.declared.pending.Pend.{Pend}
 use Rattle.bbm_entry_state.specs.declared.pending.Pends.{Pends}
-use Rattle.bbm_place_map.specs.Each.{Does, loses_table}
+use Rattle.bbm_place_map.specs.Each.{Does, loses, with_page}
 use Rattle.bbm_place_map.specs.Entries.{cell_at, entry_in, marks_of, pend_in, pends_in, position_at}
 use Rattle.bbm_place_map.specs.Parts.{entry_of_cell}
 use Rattle.bbm_place_map.specs.Puts.{StillSound}
@@ -81,34 +82,40 @@ abbrev pub KeepsSeats : Effect → List Entry → List Entry → Type 0
 KeepsSeats (Publish heard) old new = (length new ≡ length old) × ((m : ℕ) → position_at new m ≡ position_at old m)
 KeepsSeats Complete old new = Unit {0}
 
--- What a DSB leaves of the entries.
-pub record Visited (effect : Effect) (old new : Entries) : Type 0 where
+-- there is room for the next page of each entry
+abbrev pub HasRoomToTell : Entries → Vec ℕ Global → Type 0
+HasRoomToTell entries pages = vec_len pages + length entries.list.items ≤ vec_capacity pages
+
+-- What a DSB leaves of the entries, and of the room for the next pages of those that leave.
+pub record Visited (effect : Effect) (old new : Entries) (pages pages' : Vec ℕ Global) : Type 0 where
   pub sound : StillSound old new
   pub seats : KeepsSeats effect old.list.items new.list.items
+  pub space : vec_capacity pages' ≡ vec_capacity pages
+  pub room : vec_len pages' + length new.list.items ≤ vec_len pages + length old.list.items
 
--- whether a table left that the place of a cell was broken over
-abbrev pub loses_at : Entries → Entries → ℕ → Bool
-loses_at old new j = loses_table (marks_of (entry_of_cell old j)) (marks_of (entry_of_cell new j))
+-- the next page of the table that the place of a cell was broken over and isn't any more
+abbrev pub loses_at : Entries → Entries → ℕ → Option ℕ
+loses_at old new j = loses (marks_of (entry_of_cell old j)) (marks_of (entry_of_cell new j))
 
--- A DSB visited the entry of cell j, and told whether it left, and its core is a table.
-pub record VisitsCell (by : Barrier) (j : ℕ) (old new : Entries) (told : Bool) : Type 0 where
-  pub visited : Visited by.effect old new
+-- A DSB visited the entry of cell j. Where it left, and its core is a table, the next page is lost.
+pub record VisitsCell (by : Barrier) (j : ℕ) (old new : Entries) (pages pages' : Vec ℕ Global) : Type 0 where
+  pub visited : Visited by.effect old new pages pages'
   pub here : Does by.effect by (entry_of_cell old j) (entry_of_cell new j)
-  pub answer : told ≡ loses_at old new j
+  pub told : pages'.items ≡ with_page pages.items (loses_at old new j)
   pub others : (i : ℕ) → i ≢ j → entry_of_cell new i ≡ entry_of_cell old i
 
 -- It visited the entry with this number, and those before it are where they were.
-pub record VisitsAt (effect : Effect) (by : Barrier) (k : ℕ) (old new : Entries) (told : Bool) : Type 0 where
-  pub visited : Visited effect old new
+pub record VisitsAt (effect : Effect) (by : Barrier) (k : ℕ) (old new : Entries) (pages pages' : Vec ℕ Global) : Type 0 where
+  pub visited : Visited effect old new pages pages'
   pub short : length old.list.items ≤ length new.list.items + 1
   pub here : (j : ℕ) → cell_at old.list.items k ≡ Some j → Does effect by (entry_of_cell old j) (entry_of_cell new j)
-  pub answer : (j : ℕ) → cell_at old.list.items k ≡ Some j → told ≡ loses_at old new j
+  pub told : (j : ℕ) → cell_at old.list.items k ≡ Some j → pages'.items ≡ with_page pages.items (loses_at old new j)
   pub others : (i j : ℕ) → cell_at old.list.items k ≡ Some j → i ≢ j → entry_of_cell new i ≡ entry_of_cell old i
   pub front : (m : ℕ) → m < k → slice_get new.list.items m ≡ slice_get old.list.items m
 
--- It visited each entry, and told whether one over a table left.
-pub record VisitsAll (by : Barrier) (old new : Entries) (told : Bool) : Type 0 where
-  pub visited : Visited by.effect old new
+-- It visited each entry. The lost pages are the next pages of the tables of those that left.
+pub record VisitsAll (by : Barrier) (old new : Entries) (pages pages' : Vec ℕ Global) : Type 0 where
+  pub visited : Visited by.effect old new pages pages'
   pub each : (j : ℕ) → Does by.effect by (entry_of_cell old j) (entry_of_cell new j)
-  pub lost : told ≡ true → (j : ℕ) × (loses_at old new j ≡ true)
-  pub kept : told ≡ false → (j : ℕ) → loses_at old new j ≡ false
+  pub lost : (page : ℕ) → Contains pages'.items page → (j : ℕ) × (loses_at old new j ≡ Some page)
+  pub told : (j page : ℕ) → loses_at old new j ≡ Some page → Contains pages'.items page

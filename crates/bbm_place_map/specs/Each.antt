@@ -1,6 +1,6 @@
 -- How each entry changes in a call that concerns all of them.
 -- Source: project's own choice.
-use Rattle.std.specs.Prelude.{◌≡◌, ◌≢◌, ◌⊎◌, ℕ, Bool, true, false, Option, Some, None, is_none, is_some, ◌&&◌}
+use Rattle.std.specs.Prelude.{◌≡◌, ◌≢◌, ◌⊎◌, ℕ, Bool, Option, Some, None, is_some, ◌&&◌, List, [], ◌∷◌, ◌++◌}
 use Rattle.bbm_entry_state.specs.EntryCalls.{Published, Completed}
 use Rattle.bbm_entry_state.specs.Points.{waits}
 use Rattle.bbm_descriptor.specs.declared.desc.Core.{Core}
@@ -41,14 +41,21 @@ Does Complete by old new = Completes by old new
 abbrev pub MayDo : Effect → Barrier → Option Entry → Option Entry → Type 0
 MayDo effect by old new = (new ≡ old) ⊎ Does effect by old new
 
--- whether a place was broken over a table, and isn't broken any more
-abbrev pub is_table : Core → Bool
-is_table (Table next ns) = true
-is_table (Leaf out attrs share global contiguous) = false
+-- the next page of a core that is a table, and that of the table that a place is broken over
+abbrev pub next_of : Core → Option ℕ
+next_of (Table next ns) = Some next
+next_of (Leaf out attrs share global contiguous) = None
 
-abbrev pub has_table : Option Marks → Bool
-has_table None = false
-has_table (Some marks) = is_table marks.core
+abbrev pub table_of : Option Marks → Option ℕ
+table_of None = None
+table_of (Some marks) = next_of marks.core
 
-abbrev pub loses_table : Option Marks → Option Marks → Bool
-loses_table old new = has_table old && is_none new
+-- the next page of the table that a place was broken over and isn't any more
+abbrev pub loses : Option Marks → Option Marks → Option ℕ
+loses old None = table_of old
+loses old (Some marks) = None
+
+-- the pages, and behind them one more where there is one
+abbrev pub with_page : List ℕ → Option ℕ → List ℕ
+with_page pages None = pages
+with_page pages (Some page) = pages ++ page ∷ []

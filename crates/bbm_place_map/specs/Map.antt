@@ -56,6 +56,10 @@ restless_in map = length map.broken.entries
 unfoldable pub restless_place : PlaceMap → ℕ → ℕ
 restless_place map i = unwrap_or (option_map (λ (e : Entry). e.place) (slice_get map.broken.entries i)) 0
 
+-- the next pages of the tables that the last DSB took out
+unfoldable pub lost_pages : PlaceMap → List ℕ
+lost_pages map = map.broken.lost
+
 -- the state of a place, where one that isn't broken is live with this core, or clean without one
 abbrev pub state_at : PlaceMap → Option Core → ℕ → EntryState
 state_at map live a = state_from live (marks_at map a)

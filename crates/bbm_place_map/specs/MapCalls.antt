@@ -7,14 +7,14 @@ use Rattle.bbm_entry_state.specs.Points.{is_broken}
 use Rattle.bbm_entry_state.specs.EntryStanding.{IsIdle}
 use Rattle.bbm_entry_state.specs.declared.state.EntryState.{EntryState}
 use Rattle.bbm_place_map.specs.ByNumber.{HoldsSame}
-use Rattle.bbm_place_map.specs.Each.{loses_table}
+use Rattle.bbm_place_map.specs.Each.{loses}
 use Rattle.bbm_place_map.specs.Map.{value_at, marks_at, page_of, pages_of, pends_at, restless_in, restless_place}
 use Rattle.bbm_place_map.specs.States.{marks_of_state}
 use Rattle.bbm_place_map.specs.declared.map.PlaceMap.{PlaceMap}
 
--- whether a place was broken over a table, and isn't broken any more
-abbrev pub lost_table : PlaceMap → PlaceMap → ℕ → Bool
-lost_table old new a = loses_table (marks_at old a) (marks_at new a)
+-- the next page of the table that a place was broken over and isn't any more
+abbrev pub lost_next : PlaceMap → PlaceMap → ℕ → Option ℕ
+lost_next old new a = loses (marks_at old a) (marks_at new a)
 
 -- A value is written at the place, and no other value changes, and the same pages are tracked.
 pub record Puts (value place : ℕ) (old new : PlaceMap) : Type 0 where

@@ -33,11 +33,16 @@ pub record IsSound (parts : List ℕ) (entries : Entries) : Type 0 where
   pub room : 512 * length parts ≤ vec_capacity entries.list
   pub few : 512 * length parts < 2 ^ 32
 
--- whether there is room for the cells of one more page, and for an entry of each
-abbrev pub has_room_for_page : Vec ℕ Global → Entries → Bool
-has_room_for_page parts entries =
+-- there is room for as many next pages as the pages have places
+abbrev pub HasSpare : Vec ℕ Global → Vec ℕ Global → Type 0
+HasSpare parts lost = 512 * vec_len parts ≤ vec_capacity lost
+
+-- whether there is room for the cells of one more page, and for an entry and a next page of each
+abbrev pub has_room_for_page : Vec ℕ Global → Entries → Vec ℕ Global → Bool
+has_room_for_page parts entries lost =
     nat_lt (vec_len parts) (vec_capacity parts) && nat_le (512 * (vec_len parts + 1)) (vec_capacity entries.cells)
-    && nat_le (512 * (vec_len parts + 1)) (vec_capacity entries.list) && nat_lt (512 * (vec_len parts + 1)) (2 ^ 32)
+    && nat_le (512 * (vec_len parts + 1)) (vec_capacity entries.list)
+    && nat_le (512 * (vec_len parts + 1)) (vec_capacity lost) && nat_lt (512 * (vec_len parts + 1)) (2 ^ 32)
 
 -- Each cell has the entry that it had, and no entry changes. There may be more cells, which have none.
 pub record AddsCells (old new : Entries) : Type 0 where

@@ -25,7 +25,7 @@ use crate::work::{self, Work};
 use crate::{visit, write};
 use bbm_descriptor::Core;
 use bbm_entry_state::Marks;
-use bbm_regimes::{NoMemory, Pe, Place};
+use bbm_regimes::{NoMemory, Page, Pe, Place};
 use bbm_tlbi_scope::Cover;
 use std::alloc::Global;
 use std::marker::Model;
@@ -33,33 +33,35 @@ use std::marker::Model;
 /// The number of pages whose places may be kept.
 const MAX_PAGES: usize = 1 << 22;
 
-/// The broken places, each found by the number of its value, and what is left to do for DSBs. The places of a page have
-/// 512 numbers, one after another. A page has cells from its first broken place on, and there is room for those of all
-/// pages, and for an entry of each.
+/// The broken places, each found by the number of its value, what is left to do for DSBs, and the next pages of the
+/// tables that the last DSB took out. The places of a page have 512 numbers, one after another. A page has cells from its
+/// first broken place on, and there is room for those of all pages, and for an entry and a next page of each.
 #[derive(Drop)]
 pub struct BrokenPlaces {
     alloc: Global,
     parts: Vec<u32>,
     entries: Entries,
+    lost: Vec<Page>,
     work: Work,
 }
 
 impl Model for BrokenPlaces {
     ghost use Rattle.std.specs.Prelude.{vec_len};
     ghost use Rattle.bbm_place_map.specs.ByNumber.{BrokenMap};
-    ghost use Rattle.bbm_place_map.specs.Parts.{IsSound, has_room_for_page};
+    ghost use Rattle.bbm_place_map.specs.Parts.{HasSpare, IsSound, has_room_for_page};
     ghost use Rattle.bbm_place_map.specs.Works.{Listed};
 
     ghost Value = { BrokenMap };
 
     ghost view = { λ b. record {
       pages = vec_len b.parts;
-      has_room = has_room_for_page b.parts b.entries;
+      has_room = has_room_for_page b.parts b.entries b.lost;
       entries = b.entries.list.items;
+      lost = b.lost.items;
     } };
 
     ghost invariant = { λ b. IsSound b.parts.items b.entries
-        × Listed b.work b.entries.cells.items b.entries.list.items };
+        × Listed b.work b.entries.cells.items b.entries.list.items × HasSpare b.parts b.lost };
 }
 
 /// Makes the cells of a page, which has none. The number of the first.
@@ -110,6 +112,7 @@ impl BrokenPlaces {
             alloc,
             parts: Vec::new(alloc),
             entries: Entries::new(alloc),
+            lost: Vec::new(alloc),
             work: work::no_work(alloc),
         }
     }
@@ -131,7 +134,8 @@ impl BrokenPlaces {
         if pages > MAX_PAGES || !self.entries.reserve(pages * VALUES) {
             return false;
         }
-        self.parts.reserve(1).is_ok()
+        self.lost.clear();
+        self.lost.reserve(pages * VALUES).is_ok() && self.parts.reserve(1).is_ok()
     }
 
     /// Adds the places of one more page, none of which is broken, where there is room for them.
@@ -242,18 +246,36 @@ impl BrokenPlaces {
     }
 
     /// A DSB published its issuer's writes, or answered its TLBIs, at each broken place. One that is cleansed at every PE
-    /// isn't broken any more. Whether such a place was broken over a table.
+    /// isn't broken any more. The lost pages are then the next pages of the tables that such places were broken over.
     #[inline(always)]
-    pub fn visit(&mut self, barrier: &Barrier) -> bool
+    pub fn visit(&mut self, barrier: &Barrier)
         requires { HasEffect barrier.now.effect barrier.now }
-        ensures { VisitsPlaces barrier.now self.old self.new result }
+        ensures { VisitsPlaces barrier.now self.old self.new }
     {
+        self.lost.clear();
         let broken = self.entries.list.len();
         if broken == 0 {
-            return false;
+            return;
         }
         work::begin(&mut self.work, barrier.n, broken);
-        visit::visit(&mut self.entries, &mut self.work, barrier)
+        visit::visit(&mut self.entries, &mut self.lost, &mut self.work, barrier);
+    }
+
+    /// How many pages the last DSB lost.
+    #[inline(always)]
+    pub fn lost_len(&self) -> usize
+        ensures { result ≡ length self.now.lost }
+    {
+        self.lost.len()
+    }
+
+    /// One of the pages that the last DSB lost, by its number.
+    #[inline(always)]
+    pub fn lost_page(&self, i: usize) -> Page
+        requires { i < length self.now.lost }
+        ensures { slice_get self.now.lost i ≡ Some result }
+    {
+        self.lost[i]
     }
 
     /// Makes room at an entry for what waits for the answers of a lane. `NoMemory` where there is none.

@@ -17,6 +17,7 @@
 //! - At a TLBI call `issue_all`, with how far it covers each of the broken places. Where the few places that it can
 //!   cover are known call `issue_at` with these.
 //! - At a DSB call `publish`, then `complete`. They visit the places where the DSB may change something, seldom all.
+//!   `lost_page` tells then, by numbers below `lost_len`, the next pages of the tables that places lost.
 //! - Where a page leaves its tree call `release`.
 //! - Where all places of a page are asked, `is_blank` tells whether there is anything. From the position of the page's
 //!   first place, `first_position`, `value_from` reads the value of each, and `core_from` a core, without a look-up.

@@ -5,8 +5,8 @@
 crate::specs::Map::value_at, crate::specs::Map::marks_at, crate::specs::Map::pends_at,
 // pages and positions
 crate::specs::Map::pages_of, crate::specs::Map::IsPosition,
-// the broken places by their numbers
-crate::specs::Map::restless_in, crate::specs::Map::restless_place))]
+// the broken places by their numbers, and the lost pages
+crate::specs::Map::restless_in, crate::specs::Map::restless_place, crate::specs::Map::lost_pages))]
 
 mod answering;
 mod asking;

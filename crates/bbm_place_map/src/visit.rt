@@ -1,12 +1,12 @@
 //! What a DSB publishes and answers: it visits the broken places that it may change, and no others where its lists tell.
 
-ghost use Rattle.std.specs.Prelude.{◌≡◌, ◌≢◌, ◌<◌, ◌⊎◌, ℕ, Bool, Some, true, false, Contains, vec_len, slice_get};
-ghost use Rattle.std.specs.Prelude.{nat_eq, if◌then◌else◌, Option};
+ghost use Rattle.std.specs.Prelude.{◌≡◌, ◌≢◌, ◌<◌, ◌⊎◌, ℕ, Bool, Some, [], true, false, Contains, vec_len, slice_get};
+ghost use Rattle.std.specs.Prelude.{nat_eq, if◌then◌else◌, Option, vec_capacity};
 ghost use Rattle.bbm_entry_state.specs.EntryCalls.{Completed};
 ghost use Rattle.bbm_entry_state.specs.declared.state.EntryState.TheVariants as state;
-ghost use Rattle.bbm_place_map.specs.Dsbs.{HasEffect, HoldOpen, IsAudience, IsSettled, IsBusy};
+ghost use Rattle.bbm_place_map.specs.Dsbs.{HasEffect, HasRoomToTell, HoldOpen, IsAudience, IsSettled, IsBusy};
 ghost use Rattle.bbm_place_map.specs.Dsbs.{VisitsAll, VisitsAt, VisitsCell};
-ghost use Rattle.bbm_place_map.specs.Each.{Does, Publishes, is_table as spec_is_table};
+ghost use Rattle.bbm_place_map.specs.Each.{Does, Publishes, next_of, with_page};
 ghost use Rattle.bbm_place_map.specs.Entries.{ChangesAt, entry_in, no_pends, pends_in};
 ghost use Rattle.bbm_place_map.specs.Sound.{SameSize};
 ghost use Rattle.bbm_place_map.specs.Works.{Holds, HoldsFor, IsTold, Listed, RestsAt, Stays};
@@ -19,7 +19,7 @@ use crate::work::{Work, WorkList, add, part, pass_local, restart};
 use bbm_barriers::{completes_local, is_non};
 use bbm_descriptor::Core;
 use bbm_entry_state::{Marks, law_completes};
-use bbm_regimes::PeMask;
+use bbm_regimes::{Page, PeMask};
 
 /// A DSB of the issuer, which publishes to these PEs, published its writes at one entry.
 fn publish_at(entries: &mut Entries, k: usize, barrier: &Barrier, heard: PeMask)
@@ -55,86 +55,90 @@ fn answer_at(entries: &mut Entries, k: usize, barrier: &Barrier) -> bool
     entry.marks.is_clean(barrier.n)
 }
 
-/// Whether the core is that of a table.
-fn is_table(core: Core) -> bool
-    ensures { result ≡ spec_is_table core }
+/// Keeps the next page of a core that is a table.
+#[inline(always)]
+fn tell_lost(lost: &mut Vec<Page>, core: &Core)
+    requires { vec_len lost.old < vec_capacity lost.old }
+    ensures told { lost.new.items ≡ with_page lost.old.items (next_of core.now) }
+    ensures space { vec_capacity lost.new ≡ vec_capacity lost.old }
 {
-    matches!(core, Core::Table { .. })
+    match *core {
+        Core::Table { next, ns: _ } => lost.push_reserved(next),
+        Core::Leaf { .. } => {}
+    }
 }
 
-/// A DSB of the issuer answered its TLBIs at one entry, which leaves where its place is cleansed at every PE. Whether
-/// it left, and its core is a table.
+/// A DSB of the issuer answered its TLBIs at one entry, which leaves where its place is cleansed at every PE. Where its
+/// core is a table, the next page is lost then.
 #[inline(always)]
-fn complete_at(entries: &mut Entries, k: usize, barrier: &Barrier) -> bool
+fn complete_at(entries: &mut Entries, lost: &mut Vec<Page>, k: usize, barrier: &Barrier)
     requires has { HasEffect barrier.now.effect barrier.now }
     requires within { k < vec_len entries.old.list }
-    ensures { VisitsAt Effect.Complete barrier.now k entries.old entries.new result }
+    requires room { HasRoomToTell entries.old lost.old }
+    ensures { VisitsAt Effect.Complete barrier.now k entries.old entries.new lost.old lost.new }
 {
     let core = entries.list[k].marks.core;
     if answer_at(entries, k, barrier) {
         entries.unlink(k);
-        is_table(core)
-    } else {
-        false
+        tell_lost(lost, &core);
     }
 }
 
-/// A DSB visited one entry. Whether it left, and its core is a table.
+/// A DSB visited one entry.
 #[inline(always)]
-fn visit_at(entries: &mut Entries, k: usize, barrier: &Barrier) -> bool
+fn visit_at(entries: &mut Entries, lost: &mut Vec<Page>, k: usize, barrier: &Barrier)
     requires has { HasEffect barrier.now.effect barrier.now }
     requires within { k < vec_len entries.old.list }
-    ensures { VisitsAt barrier.now.effect barrier.now k entries.old entries.new result }
+    requires room { HasRoomToTell entries.old lost.old }
+    ensures { VisitsAt barrier.now.effect barrier.now k entries.old entries.new lost.old lost.new }
 {
     match barrier.effect {
-        Effect::Publish(heard) => {
-            publish_at(entries, k, barrier, heard);
-            false
-        }
-        Effect::Complete => complete_at(entries, k, barrier),
+        Effect::Publish(heard) => publish_at(entries, k, barrier, heard),
+        Effect::Complete => complete_at(entries, lost, k, barrier),
     }
 }
 
-/// A DSB visited each entry. Whether one over a table left.
+/// A DSB visited each entry.
 #[inline(always)]
-fn visit_all(entries: &mut Entries, barrier: &Barrier) -> bool
-    requires { HasEffect barrier.now.effect barrier.now }
-    ensures { VisitsAll barrier.now entries.old entries.new result }
+fn visit_all(entries: &mut Entries, lost: &mut Vec<Page>, barrier: &Barrier)
+    requires has { HasEffect barrier.now.effect barrier.now }
+    requires none { lost.old.items ≡ [] }
+    requires room { HasRoomToTell entries.old lost.old }
+    ensures { VisitsAll barrier.now entries.old entries.new lost.old lost.new }
 {
-    let mut lost = false;
     let mut k = entries.list.len();
     while k > 0 {
         k -= 1;
-        lost |= visit_at(entries, k, barrier);
+        visit_at(entries, lost, k, barrier);
     }
-    lost
 }
 
-/// A DSB visited the entry of a cell, if it has one. Whether it left, and its core is a table.
+/// A DSB visited the entry of a cell, if it has one.
 #[inline(always)]
-fn visit_cell(entries: &mut Entries, cell: u32, barrier: &Barrier) -> bool
-    requires { HasEffect barrier.now.effect barrier.now }
-    ensures { VisitsCell barrier.now cell entries.old entries.new result }
+fn visit_cell(entries: &mut Entries, lost: &mut Vec<Page>, cell: u32, barrier: &Barrier)
+    requires has { HasEffect barrier.now.effect barrier.now }
+    requires room { HasRoomToTell entries.old lost.old }
+    ensures { VisitsCell barrier.now cell entries.old entries.new lost.old lost.new }
 {
     match entries.number(cell as usize) {
-        Some(k) => visit_at(entries, k as usize, barrier),
-        None => false,
+        Some(k) => visit_at(entries, lost, k as usize, barrier),
+        None => {}
     }
 }
 
-/// A DSB visited the entries of these cells, which are all those that it changes. Whether one over a table left.
+/// A DSB visited the entries of these cells, which are all those that it changes.
 #[inline(always)]
-fn visit_cells(entries: &mut Entries, list: &[u32], barrier: &Barrier) -> bool
+fn visit_cells(entries: &mut Entries, lost: &mut Vec<Page>, list: &[u32], barrier: &Barrier)
     requires has { HasEffect barrier.now.effect barrier.now }
+    requires none { lost.old.items ≡ [] }
+    requires room { HasRoomToTell entries.old lost.old }
     requires known { (j : ℕ) → Contains list.now j ⊎ Does barrier.now.effect barrier.now
         (entry_in entries.old.cells.items entries.old.list.items j) (entry_in entries.old.cells.items entries.old.list.items j) }
-    ensures { VisitsAll barrier.now entries.old entries.new result }
+    ensures { VisitsAll barrier.now entries.old entries.new lost.old lost.new }
 {
-    let mut lost = false;
     for i in 0..list.len() {
-        lost |= visit_cell(entries, list[list.len() - 1 - i], barrier);
+        visit_cell(entries, lost, list[list.len() - 1 - i], barrier);
     }
-    lost
 }
 
 /// Whether no DSB of the issuer publishes more of a place with these marks.
@@ -194,63 +198,73 @@ fn is_idle(barrier: &Barrier) -> bool
 }
 
 /// A DSB visited the entries that its list has, which are all at which it can do this. The list loses its cells where
-/// nothing is left, or passes them for the next DSB that reaches its PE alone. Whether an entry over a table left.
+/// nothing is left, or passes them for the next DSB that reaches its PE alone.
 #[inline(always)]
-fn visit_listed(entries: &mut Entries, list: &mut WorkList, barrier: &Barrier) -> bool
+fn visit_listed(entries: &mut Entries, lost: &mut Vec<Page>, list: &mut WorkList, barrier: &Barrier)
     requires has { HasEffect barrier.now.effect barrier.now }
+    requires none { lost.old.items ≡ [] }
+    requires room { HasRoomToTell entries.old lost.old }
     requires open { list.old.given_up ≡ false }
     requires known { HoldOpen (Holds list.old) barrier.now entries.old.cells.items entries.old.list.items }
     requires settled { IsSettled barrier.now entries.old.cells.items entries.old.list.items }
-    ensures visited { VisitsAll barrier.now entries.old entries.new result }
+    ensures visited { VisitsAll barrier.now entries.old entries.new lost.old lost.new }
     ensures known { HoldOpen (Holds list.new) barrier.now entries.new.cells.items entries.new.list.items }
 {
     if is_idle(barrier) {
-        return false;
+        return;
     }
     let wide = !is_non(barrier.dsb.domain);
-    let lost = visit_cells(entries, part(list, wide), barrier);
+    visit_cells(entries, lost, part(list, wide), barrier);
     if wide {
         restart(list, false);
     } else {
         pass_local(list);
     }
-    lost
 }
 
-/// A DSB visited the entries. Its list has given up, or has all at which it can do this. Whether an entry over a table
-/// left.
+/// A DSB visited the entries. Its list has given up, or has all at which it can do this.
 #[inline(always)]
-fn visit_by(entries: &mut Entries, list: &mut WorkList, settled: bool, barrier: &Barrier) -> bool
+fn visit_by(
+    entries: &mut Entries,
+    lost: &mut Vec<Page>,
+    list: &mut WorkList,
+    settled: bool,
+    barrier: &Barrier,
+)
     requires has { HasEffect barrier.now.effect barrier.now }
+    requires none { lost.old.items ≡ [] }
+    requires room { HasRoomToTell entries.old lost.old }
     requires known { HoldOpen (Holds list.old) barrier.now entries.old.cells.items entries.old.list.items }
     requires settled { settled ≡ true → IsSettled barrier.now entries.old.cells.items entries.old.list.items }
-    ensures visited { VisitsAll barrier.now entries.old entries.new result }
+    ensures visited { VisitsAll barrier.now entries.old entries.new lost.old lost.new }
     ensures known { HoldOpen (Holds list.new) barrier.now entries.new.cells.items entries.new.list.items }
 {
     if settled && !list.given_up {
-        visit_listed(entries, list, barrier)
+        visit_listed(entries, lost, list, barrier)
     } else {
-        let lost = visit_all(entries, barrier);
+        visit_all(entries, lost, barrier);
         relist(&entries.list, list, barrier);
-        lost
     }
 }
 
 /// A DSB of the issuer published its writes, or answered its TLBIs, at each entry. One whose place is cleansed at every
-/// PE leaves. Whether one over a table left. Where it is settled that no other place waits to leave, and the issuer's
-/// list has all entries at which there is something to do, only these are visited.
+/// PE leaves. Where it is settled that no other place waits to leave, and the issuer's list has all entries at which
+/// there is something to do, only these are visited.
 #[inline(always)]
 fn visit_for(
     entries: &mut Entries,
+    lost: &mut Vec<Page>,
     lists: &mut Vec<WorkList>,
     settled: bool,
     barrier: &Barrier,
-) -> bool
+)
     requires has { HasEffect barrier.now.effect barrier.now }
+    requires none { lost.old.items ≡ [] }
+    requires room { HasRoomToTell entries.old lost.old }
     requires known { HoldOpen (HoldsFor lists.old.items barrier.now.issuer) barrier.now
         entries.old.cells.items entries.old.list.items }
     requires settled { settled ≡ true → IsSettled barrier.now entries.old.cells.items entries.old.list.items }
-    ensures visited { VisitsAll barrier.now entries.old entries.new result }
+    ensures visited { VisitsAll barrier.now entries.old entries.new lost.old lost.new }
     ensures known { HoldOpen (HoldsFor lists.new.items barrier.now.issuer) barrier.now
         entries.new.cells.items entries.new.list.items }
     ensures kept_lists { (wide : Bool) (q j : ℕ) → q ≢ barrier.now.issuer → HoldsFor lists.old.items q wide j
@@ -258,28 +272,30 @@ fn visit_for(
 {
     let q = barrier.issuer.get() as usize;
     if q < lists.len() {
-        visit_by(entries, &mut lists[q], settled, barrier)
+        visit_by(entries, lost, &mut lists[q], settled, barrier)
     } else {
-        visit_all(entries, barrier)
+        visit_all(entries, lost, barrier)
     }
 }
 
 /// A DSB, of a log with as many PEs as the lists know of, published its issuer's writes, or answered its TLBIs, at each
-/// entry. One whose place is cleansed at every PE leaves. Whether one over a table left.
+/// entry. One whose place is cleansed at every PE leaves, and where its core is a table, the next page comes to the
+/// lost ones, of which there was none.
 #[inline(always)]
-pub fn visit(entries: &mut Entries, work: &mut Work, barrier: &Barrier) -> bool
+pub fn visit(entries: &mut Entries, lost: &mut Vec<Page>, work: &mut Work, barrier: &Barrier)
     requires has { HasEffect barrier.now.effect barrier.now }
+    requires none { lost.old.items ≡ [] }
+    requires room { HasRoomToTell entries.old lost.old }
     requires pes { work.old.pes ≡ barrier.now.n }
     requires listed { Listed work.old entries.old.cells.items entries.old.list.items }
-    ensures visited { VisitsAll barrier.now entries.old entries.new result }
+    ensures visited { VisitsAll barrier.now entries.old entries.new lost.old lost.new }
     ensures listed { Listed work.new entries.new.cells.items entries.new.list.items }
 {
     match barrier.effect {
-        Effect::Publish(_heard) => visit_for(entries, &mut work.unpublished, true, barrier),
+        Effect::Publish(_heard) => visit_for(entries, lost, &mut work.unpublished, true, barrier),
         Effect::Complete => {
-            let lost = visit_for(entries, &mut work.waiting, work.settled, barrier);
+            visit_for(entries, lost, &mut work.waiting, work.settled, barrier);
             work.settled = true;
-            lost
         }
     }
 }

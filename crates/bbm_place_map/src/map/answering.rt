@@ -1,14 +1,15 @@
 //! What TLBIs leave to their answers, and what DSBs publish and answer.
 
 ghost use Rattle.std.specs.Prelude.{ℕ, Bool, Some, None, true, false, Option, length, slice_get, is_some, OnOk, OnErr};
+ghost use Rattle.std.specs.Prelude.{Contains};
 ghost use Rattle.std.specs.Prelude.{◌&&◌, ◌≡◌, ◌≤◌, ◌<◌, nat_eq};
 ghost use Rattle.bbm_entry_state.specs.Points.{waits};
 ghost use Rattle.bbm_tlbi_scope.specs.declared.entry.Cover.{Cover as TheCover};
 ghost use Rattle.bbm_place_map.specs.Finds.{is_found, FoundAs};
-ghost use Rattle.bbm_place_map.specs.MapCalls.{lost_table, IsSame, KeepsPlaces, KeepsValues, NotesOnly};
+ghost use Rattle.bbm_place_map.specs.MapCalls.{lost_next, IsSame, KeepsPlaces, KeepsValues, NotesOnly};
 ghost use Rattle.bbm_entry_state.specs.EntryCalls.{Published, Noted, Completed};
 ghost use Rattle.bbm_descriptor.specs.declared.desc.Core.{Core as TheCore};
-ghost use Rattle.bbm_place_map.specs.Map.{marks_at, pends_at, restless_in, restless_place, state_at};
+ghost use Rattle.bbm_place_map.specs.Map.{lost_pages, marks_at, pends_at, restless_in, restless_place, state_at};
 
 use crate::found::{Answer, Found};
 use crate::issue;
@@ -16,7 +17,7 @@ use crate::lane::Lane;
 use crate::map::PlaceMap;
 use crate::orders::{Barrier, Effect, Issuing};
 use bbm_barriers::{Dsb, publishes_to};
-use bbm_regimes::{NoMemory, Pe, PeCount, PeMask};
+use bbm_regimes::{NoMemory, Page, Pe, PeCount, PeMask};
 
 impl PlaceMap {
     /// A DSB of the issuer, in a log with `n` PEs, published its writes. Only the marks change.
@@ -40,15 +41,18 @@ impl PlaceMap {
     }
 
     /// A DSB of the issuer, in a log with `n` PEs, answered its TLBIs. A place that is cleansed at every PE
-    /// isn't broken any more, and nothing waits there. Whether such a place was broken over a table.
-    pub fn complete(&mut self, issuer: Pe, dsb: Dsb, n: PeCount) -> bool
+    /// isn't broken any more, and nothing waits there. The lost pages are then the next pages of the tables that such
+    /// places were broken over.
+    pub fn complete(&mut self, issuer: Pe, dsb: Dsb, n: PeCount)
         ensures completed { (a : ℕ) → Completed (state_at self.old None a) (pends_at self.old issuer a) dsb n
             (state_at self.new None a) (pends_at self.new issuer a) }
         ensures others { (q a : ℕ) (b : Bool) (c : TheCover) (p : ℕ) → nat_eq q issuer ≡ false
             → waits (pends_at self.new q a) b c p
             ≡ (is_some (marks_at self.new a) && waits (pends_at self.old q a) b c p) }
-        ensures lost { result ≡ true → (a : ℕ) × (lost_table self.old self.new a ≡ true) }
-        ensures kept { result ≡ false → (a : ℕ) → lost_table self.old self.new a ≡ false }
+        ensures lost { (page : ℕ) → Contains (lost_pages self.new) page
+            → (a : ℕ) × (lost_next self.old self.new a ≡ Some page) }
+        ensures told { (a page : ℕ) → lost_next self.old self.new a ≡ Some page
+            → Contains (lost_pages self.new) page }
         ensures same { KeepsValues self.old self.new }
     {
         self.broken.visit(&Barrier {
@@ -56,7 +60,24 @@ impl PlaceMap {
             dsb,
             n,
             effect: Effect::Complete,
-        })
+        });
+    }
+
+    /// How many pages the last `complete` lost. A call of `publish` or `track` may forget them.
+    #[inline(always)]
+    pub fn lost_len(&self) -> usize
+        ensures { result ≡ length (lost_pages self.now) }
+    {
+        self.broken.lost_len()
+    }
+
+    /// One of the pages that the last `complete` lost, by a number below `lost_len`.
+    #[inline(always)]
+    pub fn lost_page(&self, i: usize) -> Page
+        requires { i < length (lost_pages self.now) }
+        ensures { slice_get (lost_pages self.now) i ≡ Some result }
+    {
+        self.broken.lost_page(i)
     }
 
     /// The issuer issued a TLBI that reaches these PEs, is broadcast or not, and covers the broken places as far as

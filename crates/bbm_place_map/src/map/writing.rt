@@ -6,7 +6,7 @@ ghost use Rattle.bbm_entry_state.specs.declared.state.EntryState.{EntryState as 
 ghost use Rattle.bbm_place_map.specs.MapCalls.{Frees, IsSame, KeepsItems, KeepsBroken, KeepsValues, Leaves, Puts};
 ghost use Rattle.bbm_place_map.specs.MapCalls.{WritesAs};
 ghost use Rattle.bbm_place_map.specs.Map.{value_at, marks_at, pends_at, is_tracked, IsPosition, page_of};
-ghost use Rattle.bbm_place_map.specs.Map.{pages_of, state_at};
+ghost use Rattle.bbm_place_map.specs.Map.{lost_pages, pages_of, state_at};
 
 use crate::map::PlaceMap;
 use crate::position::Position;
@@ -138,10 +138,11 @@ impl PlaceMap {
         }
     }
 
-    /// No place of the page is broken any more, and nothing waits there. Nothing else changes.
+    /// No place of the page is broken any more, and nothing waits there. Nothing else changes, nor do the lost pages.
     pub fn release(&mut self, page: Page)
         ensures freed { Frees page self.old self.new }
         ensures same { KeepsValues self.old self.new }
+        ensures lost { lost_pages self.new ≡ lost_pages self.old }
     {
         match self.base(page) {
             Some(base) => self.broken.clear_page(base),

@@ -2,6 +2,7 @@ use Rattle.bbm_place_map.proofs.Common.{◌≡◌, None, Some, arith, ap, refl, 
 use Rattle.bbm_place_map.proofs.Doing.{does_at, does_none}
 use Rattle.bbm_place_map.proofs.Linking.{cell_within}
 use Rattle.bbm_place_map.proofs.Resting.{stays_kept}
+use Rattle.bbm_place_map.specs.Each.{with_page}
 use Rattle.bbm_place_map.proofs.Rounds.{no_visit}
 use Rattle.bbm_place_map.proofs.visit.visit_cell.Goals as goal
 
@@ -23,7 +24,7 @@ returns-in-Some c =
     record {
       visited = e.visited;
       here = e.here c.args.cell at;
-      answer = e.answer c.args.cell at;
+      told = e.told c.args.cell at;
       others = λ i. e.others i c.args.cell at;
     }
 
@@ -35,8 +36,8 @@ returns-in-None c =
     = ap (entry_of c.args.entries.now.list.items)
     (sym c.number.ensures ∙ c.in-None.is) in
     record {
-      visited = no_visit by.effect c.args.entries.now;
+      visited = no_visit by.effect c.args.entries.now c.args.lost.now;
       here = does_at by.effect by here None here None none none (does_none by.effect by);
-      answer = sym (stays_kept here);
+      told = ap (with_page c.args.lost.now.items) (sym (stays_kept here));
       others = λ i other. refl;
     }

@@ -7,9 +7,9 @@ use Rattle.bbm_place_map.proofs.visit.visit_cells.Goals as goal
 
 pub loop-i-init : goal.loop-i-init
 loop-i-init c = record {
-  visited = no_visit c.args.barrier.now.effect c.args.entries.now;
+  visited = no_visit c.args.barrier.now.effect c.args.entries.now c.args.lost.now;
   here = λ i below. absurd (omega arith);
-  round = rounded_none c.args.barrier.now.effect c.args.barrier.now (entry_in c.args.entries.now.cells.items c.args.entries.now.list.items);
+  round = rounded_none c.args.barrier.now.effect c.args.barrier.now (entry_in c.args.entries.now.cells.items c.args.entries.now.list.items) c.args.lost.now.items c.requires.none;
 }
 
 pub loop-i-preserved : goal.loop-i-preserved
@@ -17,17 +17,17 @@ loop-i-preserved c =
     let by = c.args.barrier.now in
     let list = c.args.list.now in
     let m = from_end list c.loop-i.i in
-    let ens = c.visit_cell-lost.ensures in
+    let ens = c.visit_cell.ensures in
     let inv = c.loop-i.invariant in
     let start = entry_in c.args.entries.now.cells.items c.args.entries.now.list.items in
     let mid = entry_in c.loop-i.entries.cells.items c.loop-i.entries.list.items in
-    let new = entry_in c.visit_cell-lost.new.entries.cells.items c.visit_cell-lost.new.entries.list.items in
+    let new = entry_in c.visit_cell.new.entries.cells.items c.visit_cell.new.entries.list.items in
     record {
       visited = visit_then inv.visited ens.visited;
       here = λ i below.
-          visited_more by.effect by start mid new m c.loop-i.lost inv.round ens.here ens.others (from_end list i)
+          visited_more by.effect by start mid new m c.loop-i.lost.items inv.round ens.here ens.others (from_end list i)
           (λ other. inv.here i (let apart : i ≢ c.loop-i.i = λ same. other (ap (from_end list) same) in omega arith));
-      round = rounded_more by.effect by start mid new m c.loop-i.lost inv.round ens.here ens.others c.visit_cell-lost.result ens.answer;
+      round = rounded_more by.effect by start mid new m c.loop-i.lost.items inv.round ens.here ens.others c.visit_cell.new.lost.items ens.told;
     }
 
 pub returns : goal.returns
@@ -46,6 +46,6 @@ returns c =
           let back : last - (last - i) ≡ i = omega arith in
           subst P back (inv.here (last - i) (omega arith)))
           inv.round.each;
-      lost = inv.round.found;
-      kept = inv.round.none;
+      lost = inv.round.lost;
+      told = inv.round.told;
     }

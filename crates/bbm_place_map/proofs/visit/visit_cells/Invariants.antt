@@ -9,8 +9,8 @@ from_end list i = slice_index list (length list - 1 - i)
 
 abbrev pub invariant-loop-i : goal.invariant-loop-i
 invariant-loop-i l = record {
-  visited : Visited l.barrier.effect l.initial.entries l.entries;
+  visited : Visited l.barrier.effect l.initial.entries l.entries l.initial.lost l.lost;
   here : (i : ℕ) → i < l.i → Does l.barrier.effect l.barrier (entry_in l.initial.entries.cells.items l.initial.entries.list.items (from_end l.list i))
       (entry_in l.entries.cells.items l.entries.list.items (from_end l.list i));
-  round : Rounded l.barrier.effect l.barrier (entry_in l.initial.entries.cells.items l.initial.entries.list.items) (entry_in l.entries.cells.items l.entries.list.items) l.lost;
+  round : Rounded l.barrier.effect l.barrier (entry_in l.initial.entries.cells.items l.initial.entries.list.items) (entry_in l.entries.cells.items l.entries.list.items) l.lost.items;
 }

@@ -10,7 +10,7 @@ invariant_of-self c =
     let self = c.self.inside in
     let s = c.self.invariant.0 in
     let e = c.add_cells.ensures in
-    let room : has_room_for_page self.parts self.entries ≡ true = rw (← c.self.view_is) at c.requires in
+    let room : has_room_for_page self.parts self.entries self.lost ≡ true = rw (← c.self.view_is) at c.requires in
     let N : (ℕ → Option ℕ) → Type 0 = λ f. Numbered f (vec_len self.entries.cells) in (
       record {
         numbered = subst N (sym (fun_ext e.kept.slots)) s.numbered;
@@ -22,4 +22,5 @@ invariant_of-self c =
       },
       listed_fewer self.work c.make_lists.new.lists c.make_lists-2.new.lists self.entries.cells.items self.entries.cells.items
           self.entries.list.items self.entries.list.items c.make_lists.ensures c.make_lists-2.ensures (λ j. inr refl) c.self.invariant.1,
+      search (rules, room, e.len),
     )

@@ -1,5 +1,5 @@
 use Rattle.bbm_place_map.proofs.Common.{◌≡◌, ℕ, None, Some, nat_eq, refl, ap, sym, ◌∙◌, Core, marks_of}
-use Rattle.bbm_place_map.proofs.Common.{List, cell_by, entry_of_cell, vec_len, Entries, IsSound}
+use Rattle.bbm_place_map.proofs.Common.{arith, List, cell_by, entry_of_cell, vec_len, Entries, IsSound}
 use Rattle.bbm_place_map.specs.Parts.{AddsCells}
 use Rattle.bbm_place_map.proofs.Held.{broken_entry, broken_marks, broken_pends, broken_seats, entry_at_cell, entry_by, sound_marked}
 use Rattle.bbm_place_map.proofs.Listing.{listed_added, listed_fresh}
@@ -39,6 +39,7 @@ invariant_of-self c =
           c.cell_of-i.result c.args.pe c.broken_by-marks.result n.pes (ap marks_of was) made.writers made.clean n.there n.kept n.waiting n.settled
           (broken_marks cell.sound cell.cell e) (broken_pends cell.sound cell.cell e)
           (listed_added cell.added c.self.invariant.1),
+      omega (arith, c.self.invariant.2, cell.pages),
     )
 
 pub returns : goal.returns

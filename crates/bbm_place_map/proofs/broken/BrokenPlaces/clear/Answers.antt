@@ -7,7 +7,7 @@ use Rattle.bbm_place_map.proofs.broken.BrokenPlaces.clear.Goals as goal
 
 pub invariant_of-self : goal.invariant_of-self
 invariant_of-self c =
-    let e = c.clear.ensures in (sound_seated e.sound c.self.invariant.0, listed_cleared e c.self.invariant.1)
+    let e = c.clear.ensures in (sound_seated e.sound c.self.invariant.0, listed_cleared e c.self.invariant.1, c.self.invariant.2)
 
 pub returns-in-Some : goal.returns-in-Some
 returns-in-Some c =
@@ -18,6 +18,7 @@ returns-in-Some c =
     let at : cell_by self.parts.items c.args.j ≡ Some c.in-Some.i = rw (← c.deref.ensures.value, ← c.cell.ensures) c.in-Some.is in
     rw (← c.self.view_is) (record {
       pages = refl;
+      lost = refl;
       seats = e.sound.seats;
       entries = λ i. by_cells sound (sound_seated e.sound sound)
           (λ o p. p ≡ (if nat_eq i c.args.j then None else o)) i
@@ -32,6 +33,7 @@ returns-in_default c =
     let list = self.entries.list.items in
     rw (← c.self.view_is) (record {
       pages = refl;
+      lost = refl;
       seats = seats_same list;
       entries = λ i. split_at i c.args.j (λ same. ap (entry_by list) same ∙ entry_without_cell c.self.invariant.0 c.args.j at) (λ _. refl);
     })

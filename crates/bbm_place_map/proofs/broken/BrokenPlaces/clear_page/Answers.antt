@@ -14,7 +14,7 @@ clear_page-requires c =
 
 pub invariant_of-self : goal.invariant_of-self
 invariant_of-self c =
-    let e = c.clear_page.ensures in (sound_seated e.sound c.self.invariant.0, listed_cleared e c.self.invariant.1)
+    let e = c.clear_page.ensures in (sound_seated e.sound c.self.invariant.0, listed_cleared e c.self.invariant.1, c.self.invariant.2)
 
 pub returns-in-Some : goal.returns-in-Some
 returns-in-Some c =
@@ -26,6 +26,7 @@ returns-in-Some c =
     = rw (← c.deref.ensures.value, ← c.slot_of.ensures) c.in-Some.is in
     rw (← c.self.view_is) (record {
       pages = refl;
+      lost = refl;
       seats = e.sound.seats;
       entries = λ i. by_cells sound (sound_seated e.sound sound)
           (λ o p. p ≡ (if in_page c.args.base 512 i then None else o)) i
@@ -41,6 +42,7 @@ returns-in_default c =
     = rw (← c.deref.ensures.value, ← c.slot_of.ensures) c.in_default.is in
     rw (← c.self.view_is) (record {
       pages = refl;
+      lost = refl;
       seats = seats_same self.entries.list.items;
       entries = λ i. by_cells sound sound (λ o p. p ≡ (if in_page c.args.base 512 i then None else o)) i
           (page_none self.parts.items None (entry_of_cell self.entries) c.args.base c.requires at i);

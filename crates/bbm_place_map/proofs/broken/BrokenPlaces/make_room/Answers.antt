@@ -13,6 +13,7 @@ invariant_of-self c =
     let f = r.entry e.0 e.1 in (
       sound_changed self.entries new c.args.k e.0 f.0 e.1 f.1 f.3 r.cells r.size c.self.invariant.0,
       listed_made self.entries new c.args.k e.0 f.0 e.1 f.1 f.3 r.cells f.2.0 self.work c.self.invariant.1,
+      c.self.invariant.2,
     )
 
 pub returns : goal.returns

@@ -1,4 +1,4 @@
-use Rattle.bbm_place_map.proofs.Common.{vec_len}
+use Rattle.bbm_place_map.proofs.Common.{arith, vec_len}
 use Rattle.bbm_place_map.proofs.Held.{broken_entry, broken_marks, broken_pends, broken_seats, sound_marked}
 use Rattle.bbm_place_map.proofs.Listing.{listed_added, listed_broken}
 use Rattle.bbm_place_map.proofs.Reaching.{cell_among}
@@ -21,6 +21,7 @@ invariant_of-self c =
           c.cell_of-i.result c.args.marks c.marks-before.result n.pes c.marks-before.ensures n.told n.kept n.waiting n.settled n.unclean
           (broken_marks cell.sound cell.cell e) (broken_pends cell.sound cell.cell e)
           (listed_added cell.added c.self.invariant.1),
+      omega (arith, c.self.invariant.2, cell.pages),
     )
 
 pub returns : goal.returns

@@ -8,4 +8,5 @@ invariant_of-result c = (
   search rules,
   listed_none c.no_work.result c.new-2.result.cells.items c.new-2.result.list.items 1 c.no_work.ensures.pes (omega arith)
       c.new-2.ensures.list,
+  search rules,
 )

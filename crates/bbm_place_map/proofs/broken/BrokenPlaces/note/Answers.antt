@@ -14,6 +14,7 @@ invariant_of-self c =
       sound_changed self.entries new c.args.k e.0 f.0 e.1 f.1 f.3 r.rest.cells r.rest.size c.self.invariant.0,
       listed_after self.entries new c.args.k e.0 f.0 e.1 f.1 f.3 r.rest.cells c.args.tlbi.now self.work
           c.note_entry.new.lists r.rest (f.2.0.0, f.2.0.1) f.2.1 c.self.invariant.1,
+      c.self.invariant.2,
     )
 
 pub returns : goal.returns
