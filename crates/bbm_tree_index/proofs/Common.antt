@@ -13,17 +13,17 @@ pub use Rattle.bbm_regimes.specs.declared.regime.Kind.TheVariants.{Ttbr0}
 pub use Rattle.bbm_rules.specs.Roots.{page_count}
 pub use Rattle.bbm_tree_index.specs.Attaching.{EndsTwice, HasPlace, IsLeast, IsPath, IsUnfresh, Judges, MayJudge, Never}
 pub use Rattle.bbm_tree_index.specs.Attaching.{is_bad, is_user_global, names_pages}
-pub use Rattle.bbm_tree_index.specs.Climbs.{cut_by, passes_at}
+pub use Rattle.bbm_tree_index.specs.Climbs.{cut_by, is_invalid_at}
 pub use Rattle.bbm_tree_index.specs.Hanging.{Hung, hung}
 pub use Rattle.bbm_tree_index.specs.HeldCores.{child, core_at, core_with, holds_at, is_at, kept, leaves, limbo_by}
-pub use Rattle.bbm_tree_index.specs.HeldCores.{next_in, stays_without}
+pub use Rattle.bbm_tree_index.specs.HeldCores.{next_in}
 pub use Rattle.bbm_tree_index.specs.IndexAgreement.{Agrees, is_sound}
 pub use Rattle.bbm_tree_index.specs.IndexChanges.{Releases}
 pub use Rattle.bbm_tree_index.specs.LeastPages.{Before, HavePages, IsSurvey, LeafIn, LeafOf, LeafPlace, LeastOf, Told}
 pub use Rattle.bbm_tree_index.specs.LeastPages.{Wrong, WrongIn, WrongPage, asks, elsewhere, leaf_bits, lesser, many}
 pub use Rattle.bbm_tree_index.specs.LeastPages.{spares, unfresh}
-pub use Rattle.bbm_tree_index.specs.Leaving.{leaves_role, stays}
-pub use Rattle.bbm_tree_index.specs.Nodes.{above_by, is_fresh_role, is_null_role, node_by, node_with}
+pub use Rattle.bbm_tree_index.specs.Leaving.{stays}
+pub use Rattle.bbm_tree_index.specs.Nodes.{above_by, is_fresh_role, is_gone_role, is_null_role, node_by, node_with}
 pub use Rattle.bbm_tree_index.specs.PageTables.{SameKeys, roles_of}
 pub use Rattle.bbm_tree_index.specs.Paths.{Attached, below_all, starts_of}
 pub use Rattle.bbm_tree_index.specs.SoundRoles.{Sound, hangs_at}

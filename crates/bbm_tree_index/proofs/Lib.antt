@@ -5,9 +5,11 @@ pub mod Climbing
 pub mod Sounds
 pub mod Cutting
 pub mod Sweeping
-pub mod Keeping
+pub mod HeldPlaces
+pub mod Departures
+pub mod FirstLeavers
+pub mod AllLeft
 pub mod Growing
-pub mod Swept
 pub mod Injective
 pub mod Counting
 pub mod Scanning

@@ -1,21 +1,16 @@
 -- What the code asks of the places above a page, by the roles alone. Source: project's own choice.
-use Rattle.std.specs.Prelude.{ℕ, zero, suc, Bool, true, false, not, ◌||◌, ◌==◌}
+use Rattle.std.specs.Prelude.{ℕ, zero, suc, Bool, true, false, not, ◌||◌}
 use Rattle.bbm_descriptor.specs.Descriptor.{is_valid}
 use Rattle.bbm_place_map.specs.Map.{value_at}
 use Rattle.bbm_place_map.specs.declared.map.PlaceMap.{PlaceMap}
 use Rattle.bbm_regimes.specs.declared.regime.Kind.{Kind}
 use Rattle.bbm_rules.specs.Places.{page_of}
-use Rattle.bbm_tree_index.specs.HeldCores.{holds_at}
-use Rattle.bbm_tree_index.specs.declared.climb.Asked.{Asked}
-use Rattle.bbm_tree_index.specs.declared.climb.Asked.TheVariants.{Invalid, Unheld, This}
 use Rattle.bbm_tree_index.specs.declared.role.Role.{Role}
 use Rattle.bbm_tree_index.specs.declared.role.Role.TheVariants.{Untracked, Fresh, RootPage, Hangs, Gone, Null}
 
--- what is asked of one place
-abbrev pub passes_at : PlaceMap → Asked → Kind → ℕ → ℕ → Bool
-passes_at map Invalid kind level place = not (is_valid kind level (value_at map place))
-passes_at map Unheld kind level place = not (holds_at map kind level place)
-passes_at map (This at) kind level place = place == at
+-- whether the value of a place is invalid
+abbrev pub is_invalid_at : PlaceMap → Kind → ℕ → ℕ → Bool
+is_invalid_at map kind level place = not (is_valid kind level (value_at map place))
 
 -- Whether the test holds of a place above a page with this role, whose level is the number, or a page above it is in no
 -- tree.

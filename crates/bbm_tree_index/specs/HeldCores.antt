@@ -13,8 +13,6 @@ use Rattle.bbm_regimes.specs.declared.regime.Kind.{Kind}
 use Rattle.bbm_rules.specs.Lists.{any, every}
 use Rattle.bbm_rules.specs.Places.{page_of}
 use Rattle.bbm_rules.specs.Tree.{Node}
-use Rattle.bbm_tree_index.specs.declared.role.Detach.{Detach}
-use Rattle.bbm_tree_index.specs.declared.role.Detach.TheVariants.{Root, Below}
 
 -- whether the address is that of a descriptor of the page
 abbrev pub is_at : ℕ → ℕ → Bool
@@ -68,7 +66,6 @@ kept keeps (Some m) = if keeps m then Some m else None
 abbrev pub leaves : (Node → Bool) → Option Node → Bool
 leaves keeps o = option_map_or (λ m. not (keeps m)) o false
 
--- the node stays when a root or what is below a place is detached
-abbrev pub stays_without : Detach → Node → Bool
-stays_without (Root first) m = not (m.root == first)
-stays_without (Below place) m = not (any (λ a. a.place == place) m.above)
+-- the node stays when the root with this first page is detached
+abbrev pub stays_without : ℕ → Node → Bool
+stays_without first m = not (m.root == first)

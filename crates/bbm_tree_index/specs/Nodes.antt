@@ -7,7 +7,7 @@ use Rattle.bbm_rules.specs.Roots.{first_input_page, input_pages, start_of}
 use Rattle.bbm_rules.specs.Tree.{Above, Node, region_of}
 use Rattle.bbm_tree_index.specs.declared.role.Path.{Path}
 use Rattle.bbm_tree_index.specs.declared.role.Role.{Role}
-use Rattle.bbm_tree_index.specs.declared.role.Role.TheVariants.{Fresh, RootPage, Hangs, Null}
+use Rattle.bbm_tree_index.specs.declared.role.Role.TheVariants.{Fresh, RootPage, Hangs, Gone, Null}
 
 abbrev pub is_fresh_role : Role → Bool
 is_fresh_role Fresh = true
@@ -16,6 +16,10 @@ is_fresh_role _ = false
 abbrev pub is_null_role : Role → Bool
 is_null_role Null = true
 is_null_role _ = false
+
+abbrev pub is_gone_role : Role → Bool
+is_gone_role Gone = true
+is_gone_role _ = false
 
 module _ (roles : ℕ → Role) where
   -- the places above a page of this role, the nearest first: of a page that hangs at a place that place, and those

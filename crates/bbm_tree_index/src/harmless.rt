@@ -51,6 +51,23 @@ fn is_harmless(lower: bool, bits: u64, value: u64) -> bool
     value % 4 != bits || (value / CONTIGUOUS % 2 != 1 && !(lower && value / NOT_GLOBAL % 2 != 1))
 }
 
+/// Whether each value of the eight places that have this number and the next ones is harmless.
+#[inline(never)]
+fn are_each_harmless(map: &PlaceMap, position: &Position, lower: bool, bits: u64, from: u64) -> bool
+    requires position { IsPosition map.now position.now }
+    requires first { position.now.place % PAGE_BYTES ≡ 0 }
+    requires within { from + 8 ≤ PLACES }
+    ensures { result ≡ true → (j : ℕ) → from ≤ j → j < from + 8
+        → spares lower bits (value_at map.now (position.now.place + 8 * j)) ≡ true }
+{
+    for index in from..from + 8 {
+        if !is_harmless(lower, bits, map.value_from(position, index)) {
+            return false;
+        }
+    }
+    true
+}
+
 /// Whether the values of the eight places that have this number and the next ones are harmless. Most are 0.
 #[inline(always)]
 fn are_eight_harmless(
@@ -70,12 +87,7 @@ fn are_eight_harmless(
     if are_eight_zero(map, position, from) {
         return true;
     }
-    for index in from..from + 8 {
-        if !is_harmless(lower, bits, map.value_from(position, index)) {
-            return false;
-        }
-    }
-    true
+    are_each_harmless(map, position, lower, bits, from)
 }
 
 /// Whether no place of the page has a leaf that keeps it from being attached.

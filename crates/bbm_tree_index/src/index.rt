@@ -16,11 +16,11 @@ ghost use Rattle.indexmap.specs.IndexMap.{index_map_len};
 ghost use Rattle.bbm_tree_index.specs.PageTables.{HasPages, roles_of};
 ghost use Rattle.bbm_tree_index.specs.SoundRoles.{Sound};
 
-use crate::climb::{Asked, is_cut};
+use crate::climb::is_cut;
 use crate::fault::TreeFault;
-use crate::leaving::{Leaving, sweep};
+use crate::leaving::{Leaving, take_all};
 use crate::mark::Mark;
-use crate::role::{Detach, Path, Role};
+use crate::role::{Path, Role};
 use crate::spot::{Spot, spot_of};
 use crate::standing::Standing;
 use crate::table::{Roles, number_of, put, set};
@@ -56,11 +56,11 @@ pub struct Prepared {
 
 impl TreeIndex {
     ghost use Rattle.std.specs.Prelude.{◌≡◌, ◌≢◌, ◌≤◌, ◌↔◌, ℕ, true, false, None, Some, is_some, Err};
-    ghost use Rattle.std.specs.Prelude.{IfErr, IfSome, OnOk, OnErr, length, slice_get, ◌<◌};
+    ghost use Rattle.std.specs.Prelude.{Contains, IfErr, IfSome, OnOk, OnErr, length, slice_get, ◌<◌};
     ghost use Rattle.std.specs.Option.{option_map, option_map_or};
     ghost use Rattle.bbm_rules.specs.Places.{page_of};
     ghost use Rattle.bbm_rules.specs.Tree.{Node};
-    ghost use Rattle.bbm_place_map.specs.Map.{value_at, marks_at};
+    ghost use Rattle.bbm_place_map.specs.Map.{lost_pages, value_at, marks_at};
     ghost use Rattle.bbm_place_map.specs.MapCalls.{IsSame};
     ghost use Rattle.bbm_place_map.specs.declared.map.PlaceMap.{PlaceMap as TheMap};
     ghost use Rattle.bbm_tree_index.specs.Descent.{Translates};
@@ -71,7 +71,7 @@ impl TreeIndex {
     ghost use Rattle.bbm_tree_index.specs.IndexAgreement.{Agrees, HasNumber, SharesNumbers};
     ghost use Rattle.bbm_tree_index.specs.IndexChanges.{BecomesFresh, BecomesNull, BecomesZero, CountsTracked, IsNew};
     ghost use Rattle.bbm_tree_index.specs.IndexChanges.{TakesOut};
-    ghost use Rattle.bbm_tree_index.specs.Leaving.{stays};
+    ghost use Rattle.bbm_tree_index.specs.Leaving.{CanFind, HangOr, LieAt, stays};
     ghost use Rattle.bbm_tree_index.specs.Nodes.{path_at};
     ghost use Rattle.bbm_tree_index.specs.Spots.{Fits, StandsAt, spot_with};
 
@@ -225,7 +225,7 @@ impl TreeIndex {
     {
         let role = self.role(map, place.page());
         match role {
-            Role::Hangs { level, .. } => { is_cut(&self.roles, map, &Asked::Invalid, level, &role) }
+            Role::Hangs { level, .. } => { is_cut(&self.roles, map, level, &role) }
             Role::RootPage { .. } => false,
             Role::Untracked => false,
             Role::Fresh => false,
@@ -246,32 +246,36 @@ impl TreeIndex {
     }
 
     /// The pages that leave are in no tree any more, and no place of them is broken.
+    #[inline(always)]
     fn leave(&mut self, map: &mut PlaceMap, leaving: &Leaving)
-        requires { SharesNumbers self.old map.old }
+        requires same { SharesNumbers self.old map.old }
+        requires found { CanFind (node_in self.old) map.old leaving.now }
         ensures { TakesOut (stays map.old leaving.now) self.old self.new map.old map.new }
     {
-        sweep(&mut self.roles, map, leaving);
+        take_all(&mut self.roles, map, &self.header, leaving);
     }
 
-    /// Takes out of the trees each page with a place above it that holds nothing any more, as a DSB may leave it. No
-    /// place of it is broken any more, and nothing waits there. All else stays.
+    /// Takes out of the trees each page with a place above it that holds nothing any more, as a DSB leaves it: there the
+    /// page that hung is one of those that the DSB lost. No place of what leaves is broken any more, and nothing waits
+    /// there. All else stays. It takes time by what leaves.
+    #[inline(always)]
     pub fn prune(&mut self, map: &mut PlaceMap)
-        requires { SharesNumbers self.old map.old }
+        requires same { SharesNumbers self.old map.old }
+        requires lost { HangOr (node_in self.old) map.old (Contains (lost_pages map.old)) }
         ensures { TakesOut (is_held_by (holds_at map.old)) self.old self.new map.old map.new }
     {
         self.leave(map, &Leaving::Unheld);
     }
 
-    /// Takes the pages of the root with this first page out of the trees, or those below this place. No place of them
-    /// is broken any more, and nothing waits there. All else stays.
-    pub fn detach(&mut self, map: &mut PlaceMap, at: Detach)
-        requires { SharesNumbers self.old map.old }
-        ensures { TakesOut (stays_without at) self.old self.new map.old map.new }
+    /// Takes the pages of the root with this first page out of the trees. No place of them is broken any more, and
+    /// nothing waits there. All else stays. It takes time by what leaves.
+    pub fn detach(&mut self, map: &mut PlaceMap, first: Page)
+        requires same { SharesNumbers self.old map.old }
+        requires root { LieAt (node_in self.old) first }
+        requires hang { HangOr (node_in self.old) map.old (λ page. ⊥) }
+        ensures { TakesOut (stays_without first) self.old self.new map.old map.new }
     {
-        match at {
-            Detach::Root(first) => self.leave(map, &Leaving::Root(first)),
-            Detach::Below(place) => self.leave(map, &Leaving::Below(place)),
-        }
+        self.leave(map, &Leaving::Root(first));
     }
 
     /// The page is tracked, anew where it was before; it is in no tree and isn't a null page. It becomes fresh, and the

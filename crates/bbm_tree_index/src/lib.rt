@@ -6,8 +6,8 @@
 //! It can be used by itself, with the map, by anyone who sees which pages are tracked and which leave their trees:
 //!
 //! - Keep one `TreeIndex`, at first `TreeIndex::new` of the header, and one `PlaceMap`.
-//! - Call `track` at each page that is initialised, `nullify` at each that is declared null, `prune` after a DSB by
-//!   which a table's place came to hold nothing, and `detach` where a root goes.
+//! - Call `track` at each page that is initialised, `nullify` at each that is declared null, `prune` after the map's
+//!   `complete` of a DSB, and `detach` where a root goes.
 //! - `prepare` tells whether pages can be attached, and which page or place is in the way; `attach_prepared` attaches
 //!   them. `attached_pages` lists the pages between the two, with the kind and the level at which each is read.
 //! - `role`, `is_fresh`, `is_null`, `is_in_tree`, `pages`, `path` and `in_limbo` tell what the calls come to. `path`
@@ -46,6 +46,6 @@ pub use fault::TreeFault;
 pub use held::next_of;
 pub use index::{Prepared, TreeIndex};
 pub use judge::lesser_page;
-pub use role::{Attach, Detach, Path, Role};
+pub use role::{Attach, Path, Role};
 pub use spot::is_childless;
 pub use standing::{AttachedPage, Standing};

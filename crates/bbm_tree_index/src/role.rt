@@ -69,12 +69,3 @@ pub enum Attach {
         next: Page,
     },
 }
-
-/// What is detached from a tree.
-#[derive(Clone, Copy, PartialEq, Eq)]
-pub enum Detach {
-    /// The pages of the root with this first page.
-    Root(Page),
-    /// The pages below this place.
-    Below(Place),
-}
