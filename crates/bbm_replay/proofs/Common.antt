@@ -9,7 +9,6 @@ pub use Rattle.bbm_entry_state.specs.declared.state.EntryState.TheVariants.{Clea
 pub use Rattle.bbm_events.specs.Heading.{Heading}
 pub use Rattle.bbm_histories.proofs.Induction.{kept_next}
 pub use Rattle.bbm_lemmas.proofs.Bools.{third_true}
-pub use Rattle.bbm_place_map.specs.Each.{is_table}
 pub use Rattle.bbm_place_map.specs.Finds.{FoundAs, is_found}
 pub use Rattle.bbm_place_map.specs.Map.{is_tracked, marks_at, pends_at, restless_place, state_at, value_at}
 pub use Rattle.bbm_place_map.specs.MapCalls.{IsSame, Puts, WritesAs}

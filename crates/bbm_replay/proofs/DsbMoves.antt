@@ -3,15 +3,21 @@ use Rattle.bbm_replay.proofs.Common.{broken, kept_next, Published, core_in, is_b
 use Rattle.bbm_replay.proofs.Common.{state_from, Kind, EntryStands, core_with, View, is_held_by, kept, notes, Laws}
 use Rattle.bbm_replay.proofs.Common.{Told, state_of, waiting, node_in, is_tracked, marks_at, PlaceMap, MayMeet, Meets}
 use Rattle.bbm_replay.proofs.Common.{SameFrame, PartsStand, view_of, ReplayState}
-use Rattle.bbm_rules.proofs.Common.{◌≡◌, ℕ, Bool, true, false, cond, ◌&&◌, nat_eq, List, [], ◌∷◌, Contains, Option}
-use Rattle.bbm_rules.proofs.Common.{Some, None, is_some, refl, sym, ◌∙◌, ap, subst, and_parts, eqb-true, not-true}
+use Rattle.bbm_rules.proofs.Common.{◌≡◌, ◌⊎◌, if◌then◌else◌, inl, inr, ℕ, Bool, true, false, cond, ◌&&◌, nat_eq, List, [], ◌∷◌, Contains, Option}
+use Rattle.bbm_rules.proofs.Common.{Some, None, is_some, none-some, refl, sym, ◌∙◌, ap, subst, and_parts, eqb-true, not-true}
 use Rattle.bbm_rules.proofs.Common.{and_right, is_non, core_of, is_valid, Core, Cover, fits_heading, Patterns, held}
 use Rattle.bbm_rules.proofs.Common.{every, page_of, Barrier, Heading, Event, Dsb, Above, Node, arith, Ok}
 use Rattle.bbm_lemmas.proofs.Words.{none_is}
 use Rattle.bbm_replay_entries.specs.EntryEvents.{Heard}
 use Rattle.bbm_replay_trees.specs.Told.{core_at, next_in}
-use Rattle.bbm_place_map.specs.MapCalls.{lost_table}
-use Rattle.bbm_place_map.specs.Each.{loses_table}
+use Rattle.bbm_descriptor.specs.declared.desc.Core.TheVariants.{Table, Leaf}
+use Rattle.bbm_entry_state.specs.EntryCalls.{clean_after}
+use Rattle.bbm_lemmas.specs.EveryPe.{every_pe}
+use Rattle.bbm_place_map.specs.Map.{lost_pages}
+use Rattle.bbm_place_map.specs.MapCalls.{lost_next}
+use Rattle.bbm_place_map.specs.Each.{loses, next_of, table_of}
+use Rattle.bbm_tree_index.specs.Leaving.{HangOr}
+use Rattle.bbm_replay.proofs.Parents.{by_parent, node_page}
 use Rattle.bbm_roots.specs.RootChanges as changes
 use Rattle.bbm_roots.specs.RootsStand as roots
 use Rattle.bbm_replay.proofs.Moves.{Completes, Hears, Leaves, SamePages, SameTracked}
@@ -27,6 +33,19 @@ use Rattle.bbm_replay.proofs.Framing.{meets_left}
 -- of a broken place the state is one whatever its live core
 pub same_state : (live live' : Option Core) (m : Option Marks) → is_some m ≡ true → state_from live m ≡ state_from live' m
 same_state live live' m k = grind arith
+
+-- what is kept where something is
+left_alone : (b : Bool) (x y : Option Core) (core : Core) → x ≡ (if b then None else y) → x ≡ Some core → y ≡ Some core
+left_alone true x y core is some = absurd (none-some core (sym is ∙ some))
+left_alone false x y core is some = sym is ∙ some
+
+next_read : (core : Core) → next_of core ≡ next_in (Some core)
+next_read (Table next ns) = refl
+next_read (Leaf out attrs share global contiguous) = refl
+
+table_read : (m : Option Marks) → table_of m ≡ next_in (core_in (state_from None m))
+table_read None = refl
+table_read (Some m) = next_read m.core
 
 module _ {heading : Heading} (laws : Laws heading) {h : List Event} {old mid new : View} (t : Told heading h old)
     {q : ℕ} {dsb : Barrier} (hears : Hears old mid (heading.cnp && is_non dsb.domain) q dsb heading.pes)
@@ -60,14 +79,20 @@ module _ {heading : Heading} (laws : Laws heading) {h : List Event} {old mid new
     abbrev live : Option Core
     live = core_of n.kind n.level (old.value a)
 
+    -- the value of a broken one is invalid
+    pub unread : is_some (old.marks a) ≡ true → live ≡ None
+    unread k =
+        let s = t.entries n a is in
+        let now_broken : is_broken (state_of old n.kind n.level a) ≡ true = broken_marks live (old.marks a) ∙ k in
+        none_is live (laws.core_where_valid n.kind n.level (old.value a)
+        ∙ ap (λ (x : ℕ). is_valid n.kind n.level x) (t.values a)
+        ∙ not-true _ (and_parts _ _ (sym s.broken ∙ now_broken)).1)
+
     broken_entry : is_some (old.marks a) ≡ true
         → EntryStands heading (e ∷ h) n.kind n.level a (state_of new n.kind n.level a) (waiting new a)
     broken_entry k =
         let s = t.entries n a is in
-        let now_broken : is_broken (state_of old n.kind n.level a) ≡ true = broken_marks live (old.marks a) ∙ k in
-        let dead : live ≡ None = none_is live (laws.core_where_valid n.kind n.level (old.value a)
-        ∙ ap (λ (x : ℕ). is_valid n.kind n.level x) (t.values a)
-        ∙ not-true _ (and_parts _ _ (sym s.broken ∙ now_broken)).1) in
+        let dead : live ≡ None = unread k in
         let same_mid : state_from live (mid.marks a) ≡ state_from None (mid.marks a)
         = same_state live None (mid.marks a) (heard_marks a ∙ k) in
         let same_new : state_from None (new.marks a) ≡ state_of new n.kind n.level a
@@ -104,44 +129,51 @@ module _ {heading : Heading} (laws : Laws heading) {h : List Event} {old mid new
       (waiting new a.place) (dsb_entry n a.place up.1) in
       cc (state_core n.kind n.level (new.value a.place) (new.marks a.place), held_now, up.2, up.3)
 
-  -- where no place lost a table, every page of a tree stays in it
-  module _ (no_loss : (a next : ℕ) → next_in (core_in (state_from None (mid.marks a))) ≡ Some next
-      → is_some (new.marks a) ≡ true) where
-    heard_core : (a : ℕ) → core_in (state_from None (mid.marks a)) ≡ core_in (state_from None (old.marks a))
-    heard_core a = either (heading.cnp && is_non dsb.domain)
-        (λ k. ap (λ (m : Option Marks). core_in (state_from None m)) (hears.unheard k a))
-        (λ k. (hears.published k None a).core)
+  heard_core : (a : ℕ) → core_in (state_from None (mid.marks a)) ≡ core_in (state_from None (old.marks a))
+  heard_core a = either (heading.cnp && is_non dsb.domain)
+      (λ k. ap (λ (m : Option Marks). core_in (state_from None m)) (hears.unheard k a))
+      (λ k. (hears.published k None a).core)
 
-    still_holds : (kind : Kind) (level a next : ℕ) → next_in (core_at old kind level a) ≡ Some next → holds kind level a ≡ true
-    still_holds kind level a next table = some_or (old.marks a)
-        (λ m k. broken_core (new.marks a) (no_loss a next (cc (k, heard_core a, table))))
-        (λ k. cc (whole_stays a k, k, value_same a, some_next (core_at old kind level a) next table))
-      where
-        broken_core : (m : Option Marks) → is_some m ≡ true → is_some (core_with m kind level (new.value a)) ≡ true
-        broken_core m k = grind arith
+  -- where a page hangs, its place holds it still, or nothing, and then the page is told
+  module _ (these : ℕ → Type 0) (told : (a page : ℕ) → loses (mid.marks a) (new.marks a) ≡ Some page → these page) where
+    abbrev Told_at : Kind → ℕ → ℕ → ℕ → Type 0
+    Told_at kind level a page = (next_in (core_at new kind level a) ≡ Some page) ⊎ ((holds kind level a ≡ false) × these page)
 
-    all_above : (xs : List Above) (p : ℕ) (m : Node) → old.node p ≡ Some m → m.above ≡ xs
-        → every (λ a. holds m.kind a.level a.place) xs ≡ true
-    all_above [] p m is e = refl
-    all_above (a ∷ rest) p m is e =
-        let up = laws.neighbours.up h old p m a rest t.kept t.fit t.nodes (cores t) is e in
-        let n = up.parent in
-        let lists : a ∷ rest ≡ record { place = a.place; level = n.level } ∷ n.above
-        = sym e ∙ ap (λ (x : Node). x.above) up.is_below in
-        let first : a ≡ record { place = a.place; level = n.level } = cc in
-        let others : n.above ≡ rest = cc in
-        let level : a.level ≡ n.level = ap (λ (x : Above). x.level) first in
-        let kind : m.kind ≡ n.kind = ap (λ (x : Node). x.kind) up.is_below in
-        let here : holds m.kind a.level a.place ≡ true
-        = cc (kind, level, still_holds n.kind n.level a.place m.page up.table) in
-        let older : every (λ a. holds n.kind a.level a.place) rest ≡ true
-        = all_above rest (page_of a.place) n up.is_parent others in
-        let there : every (λ a. holds m.kind a.level a.place) rest ≡ true
-        = ap (λ (k : Kind). every (λ a. holds k a.level a.place) rest) kind ∙ older in
-        rw (here, there) refl
+    -- one that was broken
+    broken_at : (n : Node) (a page : ℕ) → old.node (page_of a) ≡ Some n → (m : Marks) → old.marks a ≡ Some m
+        → next_in (Some m.core) ≡ Some page → Told_at n.kind n.level a page
+    broken_at n a page is m was table =
+        let heard : core_in (state_from None (mid.marks a)) ≡ Some m.core
+        = heard_core a ∙ ap (λ (x : Option Marks). core_in (state_from None x)) was in
+        some_or (new.marks a)
+        (λ m' now.
+        let same : Some m'.core ≡ Some m.core
+        = sym (left_alone (every_pe heading.pes (clean_after (state_from None (mid.marks a)) (mid.pends q a) dsb))
+        (core_in (state_from None (new.marks a))) (core_in (state_from None (mid.marks a))) m'.core (completes.completed a).core
+        (ap (λ (x : Option Marks). core_in (state_from None x)) now)) ∙ heard in
+        inl (ap (λ (x : Option Marks). next_in (core_with x n.kind n.level (new.value a))) now ∙ ap next_in same ∙ table))
+        (λ now.
+        let dead : core_of n.kind n.level (new.value a) ≡ None
+        = ap (λ (x : ℕ). core_of n.kind n.level x) (value_same a) ∙ unread n a is (ap (λ (x : Option Marks). is_some x) was) in
+        inr (
+          ap (λ (x : Option Marks). is_some (core_with x n.kind n.level (new.value a))) now ∙ ap (λ (x : Option Core). is_some x) dead,
+          told a page (ap (λ (x : Option Marks). loses (mid.marks a) x) now ∙ table_read (mid.marks a) ∙ ap next_in heard ∙ table),
+        ))
 
-    pub all_held : (p : ℕ) → kept (is_held_by holds) (old.node p) ≡ old.node p
-    all_held p = some_or (old.node p) (λ m k. rw k (ap (λ b. cond b (Some m) None) (all_above m.above p m k refl))) (λ k. rw k refl)
+    told_at : (n : Node) (a page : ℕ) → old.node (page_of a) ≡ Some n → next_in (core_at old n.kind n.level a) ≡ Some page
+        → Told_at n.kind n.level a page
+    told_at n a page is table = some_or (old.marks a)
+        (λ m was. broken_at n a page is m was
+        (sym (ap (λ (x : Option Marks). next_in (core_with x n.kind n.level (old.value a))) was) ∙ table))
+        (λ whole. let same : new.marks a ≡ old.marks a = whole_stays a whole ∙ sym whole in
+        inl ((λ i. next_in (core_with (same i) n.kind n.level (value_same a i))) ∙ table))
+
+    pub hang_or : (page : ℕ) (m : Node) (a : Above) (rest : List Above) → old.node page ≡ Some m → m.page ≡ page
+        → m.above ≡ a ∷ rest → Told_at m.kind a.level a.place page
+    hang_or page m a rest is here e =
+        let up = laws.neighbours.up h old page m a rest t.kept t.fit t.nodes (cores t) is e in
+        by_parent (λ kind level. Told_at kind level a.place page) up e
+        (told_at up.parent a.place page up.is_parent (up.table ∙ ap (λ (p : ℕ). Some p) here))
 
   pub after_dsb : (last : View) → fits_heading heading e ≡ true → broken heading Patterns h e ≡ None
       → ((p : ℕ) → new.node p ≡ old.node p) → Leaves new last (is_held_by holds) → SamePages old new
@@ -163,11 +195,6 @@ module _ {heading : Heading} (laws : Laws heading) {h : List Event} {old mid new
       let same : state_of new n.kind n.level a ≡ state_of last n.kind n.level a = cc (move.value a, (move.marks a).1 n is) in
       entry_same laws (dsb_entry n a (sym (nodes _) ∙ was.1)) same (λ p. move.pends p a n is))
       (λ a is. (move.marks a).0 is)
-
--- a place that has lost no table still is broken
-pub not_lost : (m m' : Option Marks) (next : ℕ) → loses_table m m' ≡ false → next_in (core_in (state_from None m)) ≡ Some next
-    → is_some m' ≡ true
-not_lost m m' next k table = grind arith
 
 module _ (laws : (heading : Heading) → Laws heading) (old : ReplayState) (m1 m2 : PlaceMap) (pe : ℕ) (dsb : Barrier)
     (silent : Bool) (n : ℕ) (silent_is : silent ≡ (old.header.cnp && is_non dsb.domain)) (count : n ≡ old.header.pes)
@@ -191,26 +218,18 @@ module _ (laws : (heading : Heading) → Laws heading) (old : ReplayState) (m1 m
     still_outside : (a : ℕ) → node_in old.index (page_of a) ≡ None → marks_at m2 a ≡ None
     still_outside a none = whole_stays (laws heading) s.told hears_here completes_here a (s.told.outside a none)
 
-    -- nothing leaves where no place lost a table
-    nothing_leaves : ((a : ℕ) → lost_table m1 m2 a ≡ false)
-        → Leaves (view_of m2 old.index) (view_of m2 old.index) (is_held_by holding)
-    nothing_leaves kept_all = record {
-      node = λ p. sym (all_held (laws heading) s.told hears_here completes_here
-          (λ a next table. not_lost (marks_at m1 a) (marks_at m2 a) next (kept_all a) table) p);
-      value = λ a. refl;
-      marks = λ a. (still_outside a, λ n is. refl);
-      pends = λ q a n is b c p. refl;
-      roles = record { fresh = λ p. refl; null = λ p. refl };
-      tracking = record { tracked = λ p. refl; known = λ p. refl; pages = refl };
-    }
+    -- each page that hangs is held, or among the lost ones
+    pub hang_or_lost : ((a page : ℕ) → lost_next m1 m2 a ≡ Some page → Contains (lost_pages m2) page)
+        → HangOr (node_in old.index) m2 (Contains (lost_pages m2))
+    hang_or_lost told page m a rest is e =
+        hang_or (laws heading) s.told hears_here completes_here (Contains (lost_pages m2)) told page m a rest is
+        (node_page old.index page m is) e
 
   pub dsb_meets : MayMeet old (Dsb pe dsb) → changes.BarriersPass → ((p : ℕ) → is_tracked m2 p ≡ is_tracked old.map p)
       → (new : ReplayState) → SameFrame old new → new.unmapped ≡ old.unmapped → pages_in new.index ≡ pages_in old.index
       → ((heading : Heading) (h : List Event) → roots.Stands old.roots heading h
       → roots.Stands new.roots heading (Dsb pe dsb ∷ h))
       → (((a : ℕ) → node_in old.index (page_of a) ≡ None → marks_at m2 a ≡ None)
-      → (((a : ℕ) → lost_table m1 m2 a ≡ false)
-      → Leaves (view_of m2 old.index) (view_of m2 old.index) (is_held_by holding))
       → Leaves (view_of m2 old.index) (view_of new.map new.index) (is_held_by holding))
       → Meets old new (Dsb pe dsb) (Ok tt)
   dsb_meets may pass tracked new frame same pages taken move =
@@ -218,7 +237,7 @@ module _ (laws : (heading : Heading) → Laws heading) (old : ReplayState) (m1 m
         pass.dsb heading h pe dsb,
         pass.dsb_limit h pe dsb,
         after_dsb (laws heading) s.told (hears_here heading h s) (completes_here heading h s) (view_of new.map new.index) fits
-            (pass.dsb heading h pe dsb) (λ p. refl) (move (still_outside heading h s) (nothing_leaves heading h s))
+            (pass.dsb heading h pe dsb) (λ p. refl) (move (still_outside heading h s))
             (record { fresh = λ p. refl; null = λ p. refl })
             (record { tracked = tracked; known = λ p. refl; pages = refl }),
         taken heading h s.roots,

@@ -7,6 +7,7 @@ pub mod Quiet
 pub mod PageMoves
 pub mod Growing
 pub mod Writing
+pub mod Parents
 pub mod DsbMoves
 pub mod TlbiMoves
 pub mod Judging

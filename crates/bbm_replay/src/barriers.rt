@@ -59,9 +59,8 @@ impl ReplayState {
         let n = self.header.pe_count();
         let silent = is_silent(&self.header, dsb);
         publish(&mut self.map, silent, pe, dsb, n);
-        if self.map.complete(pe, dsb, n) {
-            self.index.prune(&mut self.map);
-        }
+        self.map.complete(pe, dsb, n);
+        self.index.prune(&mut self.map);
         self.roots.complete(pe, dsb);
     }
 }

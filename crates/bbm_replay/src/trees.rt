@@ -14,8 +14,9 @@ use crate::laws::{laws, rules};
 use crate::parts::ReplayState;
 use bbm_place_map::PlaceMap;
 use bbm_regimes::{Kind, PAGE_BYTES, Page, Pe};
+use bbm_replay_trees::starts::law_starts;
 use bbm_rules::{Rule, StepFault};
-use bbm_tree_index::{Attach, Detach, TreeIndex};
+use bbm_tree_index::{Attach, TreeIndex};
 use std::alloc::Global;
 
 /// Whether the page at the address, in bytes, is fresh.
@@ -97,9 +98,10 @@ impl ReplayState {
     {
         laws();
         rules();
+        law_starts();
         match self.roots.judge_unroot(pe, page) {
             Ok(()) => {
-                self.index.detach(&mut self.map, Detach::Root(page));
+                self.index.detach(&mut self.map, page);
                 self.roots.retire(page);
                 Ok(())
             }

@@ -1,7 +1,18 @@
 use Rattle.bbm_replay.proofs.Common.{ReplayState}
 use Rattle.bbm_rules.proofs.Common.{not, ◌==◌, ◌∙◌, refl, sym, Node}
 use Rattle.bbm_replay.proofs.PageMoves.{leaves_of, unroot_err, unroot_ok}
+use Rattle.bbm_replay.proofs.Parents.{hang_held, lie_at}
 use Rattle.bbm_replay.proofs.parts.ReplayState.unroot.Goals as goal
+
+pub detach-requires-clause-root : goal.detach-requires-clause-root
+detach-requires-clause-root c =
+    let old = c.args.self.now in let s = c.requires in
+    lie_at (c.laws.ensures s.0) old.map old.index s.2.told (c.law_starts.ensures s.0) c.args.page
+
+pub detach-requires-clause-hang : goal.detach-requires-clause-hang
+detach-requires-clause-hang c =
+    let old = c.args.self.now in let s = c.requires in
+    hang_held (c.laws.ensures s.0) old.map old.index s.2.told
 
 pub returns-in-Ok : goal.returns-in-Ok
 returns-in-Ok c =
