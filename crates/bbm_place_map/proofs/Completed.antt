@@ -1,5 +1,5 @@
 -- What a DSB leaves of each place that it visits.
-use Rattle.bbm_place_map.proofs.Common.{◌≡◌, ℕ, Bool, true, false, List, Some, None, Option, refl, ap, sym, subst, ◌∙◌}
+use Rattle.bbm_place_map.proofs.Common.{◌≡◌, ℕ, Bool, true, false, List, Some, None, Option, ap, sym, subst, ◌∙◌}
 use Rattle.bbm_place_map.proofs.Common.{Does, HoldsFor, Rests, loses, Contains, none-some, entry_of_cell, marks_of, at_index, cell_by}
 use Rattle.bbm_place_map.proofs.Common.{arith, count_by-le-length, is_listed, length, ◌≤◌, ◌*◌}
 use Rattle.bbm_place_map.proofs.Common.{Entries, Entry, Barrier, Effect, Complete, Publish, IsSound}

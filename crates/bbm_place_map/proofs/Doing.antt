@@ -1,12 +1,11 @@
 -- What a DSB does at a place: once and twice, and where it does nothing.
-use Rattle.bbm_place_map.proofs.Common.{◌≡◌, ℕ, ◌<◌, ◌↔◌, Bool, true, false, not, ◌&&◌, Option, Some, None, IsTrue}
+use Rattle.bbm_place_map.proofs.Common.{◌≡◌, ℕ, ◌<◌, ◌↔◌, Bool, true, false, not, Option, Some, None, IsTrue}
 use Rattle.bbm_place_map.proofs.Common.{refl}
-use Rattle.bbm_place_map.proofs.Common.{ap, sym, subst, ◌∙◌, inl, inr, false≢true, same_Some, none-some, and-false}
+use Rattle.bbm_place_map.proofs.Common.{ap, sym, subst, ◌∙◌, inl, inr, false≢true, same_Some, none-some}
 use Rattle.bbm_place_map.proofs.Common.{pe_in}
-use Rattle.bbm_place_map.proofs.Common.{answers_local, PeMask, Marks, Broken, Core, Does, MayDo, Publishes}
+use Rattle.bbm_place_map.proofs.Common.{answers_local, PeMask, Marks, Broken, Does, MayDo, Publishes}
 use Rattle.bbm_place_map.proofs.Common.{Complete, Publish, Effect, loses, next_of, ◌⊎◌, marks_of, pends_in, pends_of}
 use Rattle.bbm_place_map.proofs.Common.{Rests, Stays, is_clean, Entry, Barrier}
-use Rattle.std.proofs.Common.{is_none}
 use Rattle.bbm_barriers.specs.Options.{is_non}
 use Rattle.bbm_place_map.specs.Dsbs.{HasEffect, IsAudience, IsBusy}
 use Rattle.bbm_place_map.proofs.Advancing.{advance_then, self_advances}

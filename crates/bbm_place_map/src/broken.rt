@@ -33,6 +33,10 @@ use std::marker::Model;
 /// The number of pages whose places may be kept.
 const MAX_PAGES: usize = 1 << 22;
 
+/// For how many pages at least there is room for the next pages that they may lose: so many that the room grows by
+/// address space, and isn't copied.
+const FIRST_PAGES: usize = 64;
+
 /// The broken places, each found by the number of its value, what is left to do for DSBs, and the next pages of the
 /// tables that the last DSB took out. The places of a page have 512 numbers, one after another. A page has cells from its
 /// first broken place on, and there is room for those of all pages, and for an entry and a next page of each.
@@ -135,7 +139,8 @@ impl BrokenPlaces {
             return false;
         }
         self.lost.clear();
-        self.lost.reserve(pages * VALUES).is_ok() && self.parts.reserve(1).is_ok()
+        let all = pages.max(FIRST_PAGES);
+        self.lost.reserve(all * VALUES).is_ok() && self.parts.reserve(1).is_ok()
     }
 
     /// Adds the places of one more page, none of which is broken, where there is room for them.
