@@ -3,10 +3,12 @@ use Rattle.bbm_replay.proofs.Common.{broken, kept_next, Published, core_in, is_b
 use Rattle.bbm_replay.proofs.Common.{state_from, Kind, EntryStands, core_with, View, is_held_by, kept, notes, Laws}
 use Rattle.bbm_replay.proofs.Common.{Told, state_of, waiting, node_in, is_tracked, marks_at, PlaceMap, MayMeet, Meets}
 use Rattle.bbm_replay.proofs.Common.{SameFrame, PartsStand, view_of, ReplayState}
-use Rattle.bbm_rules.proofs.Common.{◌≡◌, ◌⊎◌, if◌then◌else◌, inl, inr, ℕ, Bool, true, false, cond, ◌&&◌, nat_eq, List, [], ◌∷◌, Contains, Option}
-use Rattle.bbm_rules.proofs.Common.{Some, None, is_some, none-some, refl, sym, ◌∙◌, ap, subst, and_parts, eqb-true, not-true}
+use Rattle.bbm_rules.proofs.Common.{◌≡◌, ◌⊎◌, if◌then◌else◌, inl, inr, ℕ, Bool, true, false, ◌&&◌, nat_eq, List, ◌∷◌}
+use Rattle.bbm_rules.proofs.Common.{Contains, Option}
+use Rattle.bbm_rules.proofs.Common.{Some, None, is_some, none-some, refl, sym, ◌∙◌, ap, subst, and_parts, eqb-true}
+use Rattle.bbm_rules.proofs.Common.{not-true}
 use Rattle.bbm_rules.proofs.Common.{and_right, is_non, core_of, is_valid, Core, Cover, fits_heading, Patterns, held}
-use Rattle.bbm_rules.proofs.Common.{every, page_of, Barrier, Heading, Event, Dsb, Above, Node, arith, Ok}
+use Rattle.bbm_rules.proofs.Common.{page_of, Barrier, Heading, Event, Dsb, Above, Node, arith, Ok}
 use Rattle.bbm_lemmas.proofs.Words.{none_is}
 use Rattle.bbm_replay_entries.specs.EntryEvents.{Heard}
 use Rattle.bbm_replay_trees.specs.Told.{core_at, next_in}
@@ -23,7 +25,7 @@ use Rattle.bbm_roots.specs.RootsStand as roots
 use Rattle.bbm_replay.proofs.Moves.{Completes, Hears, Leaves, SamePages, SameTracked}
 use Rattle.bbm_replay.proofs.Aparts.{apart_leaves, apart_same, was_there}
 use Rattle.bbm_replay.proofs.Cases.{either, some_or}
-use Rattle.bbm_replay.proofs.Entries.{broken_marks, by_break, entry_same, some_next, some_pe}
+use Rattle.bbm_replay.proofs.Entries.{broken_marks, by_break, entry_same, some_pe}
 use Rattle.bbm_replay.proofs.Quiet.{told_next}
 use Rattle.bbm_replay.proofs.Writing.{cores}
 use Rattle.bbm_replay.proofs.Ways.{state_core}

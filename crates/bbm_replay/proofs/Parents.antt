@@ -1,7 +1,8 @@
 -- The page above a page that hangs, and the pages of a root.
 use Rattle.bbm_replay.proofs.Common.{Kind, Laws, Told, PlaceMap, TreeIndex, view_of}
-use Rattle.bbm_rules.proofs.Common.{◌≡◌, ◌≤◌, ◌⊎◌, ◌+◌, ◌*◌, ◌∙◌, ℕ, true, false, List, [], ◌∷◌, Option, Some, None, is_some, sym, ap, subst, arith, inl}
-use Rattle.bbm_rules.proofs.Common.{none-some, same_Some, and_parts, nat_tests, Above, Event, Heading, Node, page_count, page_of}
+use Rattle.bbm_rules.proofs.Common.{◌≡◌, ◌≤◌, ◌⊎◌, ◌+◌, ◌*◌, ◌∙◌, ℕ, true, false, List, ◌∷◌, Option, Some, is_some, sym}
+use Rattle.bbm_rules.proofs.Common.{ap, subst, arith, inl}
+use Rattle.bbm_rules.proofs.Common.{none-some, same_Some, and_parts, nat_tests, Above, Event, Heading, Node, page_count}
 use Rattle.bbm_descriptor.specs.declared.desc.Core.{Core}
 use Rattle.bbm_regimes.specs.World.{are_s2_pages, world_ok}
 use Rattle.bbm_regimes.specs.declared.regime.Kind.TheVariants as kinds
