@@ -5,7 +5,8 @@ use Rattle.bbm_tree_index.proofs.Common.{roles_of, stays, IndexMap, Untracked, g
 use Rattle.bbm_tree_index.specs.PageTables.{HasPages}
 use Rattle.bbm_rules.proofs.Common.{◌≡◌, ◌⊎◌, ◌∙◌, ℕ, zero, suc, Bool, true, false, not, ◌&&◌, ◌==◌, Option, Some, None}
 use Rattle.bbm_rules.proofs.Common.{refl, sym, ap, subst, arith, inl, inr, eqb-true, true≢false, false≢true, none-some}
-use Rattle.bbm_rules.proofs.Common.{same_Some, suc_inj, fun_ext, Kind, page_of, Node, Above, node_below, Contains, unwrap_or, is_some, nat_eq, ◌<◌, ◌^◌}
+use Rattle.bbm_rules.proofs.Common.{same_Some, suc_inj, fun_ext, Kind, page_of, Node, Above, node_below, Contains}
+use Rattle.bbm_rules.proofs.Common.{unwrap_or, is_some, nat_eq, ◌<◌, ◌^◌}
 use Rattle.std.proofs.lemmas.Bool.{cases_Bool}
 use mathlib.Core.Bool.{not-not}
 use Rattle.bbm_place_map.specs.Map.{lost_pages}

@@ -1,11 +1,13 @@
 -- Pages that leave the trees, each after all that hang below it.
 use Rattle.bbm_tree_index.proofs.Common.{Heading, Marks, PlaceMap, Sound, hangs_at, core_at, core_with, is_at}
 use Rattle.bbm_tree_index.proofs.Common.{Leaving, Role, RootPage, Hangs, Gone, Releases, is_gone_role, leaves, marks_at}
-use Rattle.bbm_tree_index.proofs.Common.{next_in, node_by, node_with, stays, value_at, IndexMap, Untracked, get, roles_of}
+use Rattle.bbm_tree_index.proofs.Common.{next_in, node_by, node_with, stays, value_at, IndexMap, Untracked, get}
+use Rattle.bbm_tree_index.proofs.Common.{roles_of}
 use Rattle.bbm_rules.proofs.Common.{◌≡◌, ◌⊎◌, ◌<◌, ◌≤◌, ◌+◌, ◌*◌, ◌∙◌, ℕ, suc, Bool, true, false, not, ◌&&◌, ◌||◌}
 use Rattle.bbm_rules.proofs.Common.{◌==◌, Option, Some, None, is_some, refl, sym, ap, subst, arith, inl, inr, and_parts}
 use Rattle.bbm_rules.proofs.Common.{or_parts, or_cases, eq-eqb, eqb-true, false_from_ne_true, true≢false, false≢true}
-use Rattle.bbm_rules.proofs.Common.{if◌then◌else◌, none-some, same_Some, Kind, page_of, Node, node_below, nat_eq, unwrap_or}
+use Rattle.bbm_rules.proofs.Common.{if◌then◌else◌, none-some, same_Some, Kind, page_of, Node, node_below, nat_eq}
+use Rattle.bbm_rules.proofs.Common.{unwrap_or}
 use Rattle.std.proofs.lemmas.Bool.{cases_Bool, cases_lt}
 use mathlib.Core.Bool.{or-true}
 use Rattle.bbm_entry_state.specs.EntryStanding.{IsIdle}

@@ -1,5 +1,6 @@
 -- Pages that leave though the page above them may stay.
-use Rattle.bbm_tree_index.proofs.Common.{Heading, Marks, PlaceMap, hangs_at, core_with, holds_at, Leaving, Role, RootPage, Hangs}
+use Rattle.bbm_tree_index.proofs.Common.{Heading, Marks, PlaceMap, hangs_at, core_with, holds_at, Leaving, Role}
+use Rattle.bbm_tree_index.proofs.Common.{RootPage, Hangs}
 use Rattle.bbm_tree_index.proofs.Common.{is_gone_role, leaves, marks_at, node_by, node_with, start_of, stays, value_at}
 use Rattle.bbm_rules.proofs.Common.{◌≡◌, ◌∙◌, ℕ, suc, Bool, true, false, not, ◌&&◌, ◌==◌, Option, Some, None, is_some}
 use Rattle.bbm_rules.proofs.Common.{refl, sym, ap, inl, inr, and_parts, true≢false, false≢true, Kind, Node, page_of}
